@@ -1,0 +1,4 @@
+pub mod Chain
+pub mod Talk
+pub mod Entries
+pub mod Listing

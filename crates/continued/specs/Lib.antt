@@ -1,0 +1,3 @@
+pub mod Reads
+pub mod Pages
+pub mod Point3

@@ -1,0 +1,95 @@
+-- Document 01, "Fragment", point 3: the continued reads. What a list of messages leaves behind, the premises on the list, and what is claimed of it.
+-- Over any controller: `respond` says what a sent message comes to, from a tag memory.
+use mathlib.Core.Path.{_≡_}
+use mathlib.Core.Logic.{_↔_, _≢_}
+use mathlib.Core.List.{List, [], _∷_, _++_}
+use Prim.Native.Nat.{ℕ, _+_, _≤_, _<_, min}
+use lib.ListN.{length, take, drop, getD}
+use Rattle.definition.specs.Fragment.{space, replyCount}
+use Rattle.definition.specs.Entry.{Outcome, refused, replied, Entered}
+
+abbrev pub Memory : Type 0
+Memory = List ℕ
+
+-- a message with its limit and its reply buffer
+pub record Sent : Type 0 where
+  pub request : List ℕ
+  pub limit : ℕ
+  pub buffer : List ℕ
+
+-- one of the continued messages, or any other
+pub data Turn : Type 0 where
+  ours : Sent → Turn
+  other : Sent → Turn
+
+-- an answered message: its limit, its general status and its data past the type header
+pub record Answer : Type 0 where
+  pub limit : ℕ
+  pub status : ℕ
+  pub bytes : List ℕ
+
+-- ---- of the answered ones, THE NEWEST FIRST
+
+unfoldable pub joined : List Answer → List ℕ
+joined [] = []
+joined (a ∷ before) = joined before ++ a .bytes
+
+-- 6 before anything is answered: more is due
+abbrev pub lastStatus : List Answer → ℕ
+lastStatus [] = 6
+lastStatus (a ∷ before) = a .status
+
+abbrev pub smallest : ℕ → List Answer → ℕ
+smallest m [] = m
+smallest m (a ∷ before) = min (a .limit) (smallest m before)
+
+-- the smallest answered limit
+abbrev pub leastLimit : List Answer → ℕ
+leastLimit [] = 0
+leastLimit (a ∷ before) = smallest (a .limit) before
+
+abbrev pub Each : (Answer → Type 0) → List Answer → Type 0
+Each P [] = Unit {0}
+Each P (a ∷ before) = P a × Each P before
+
+-- ---- the list of messages
+
+-- what is heard of a message, h bytes of type header left out: of an entry refusal nothing
+abbrev pub heard : (h limit : ℕ) → Outcome → List Answer → List Answer
+heard h limit (refused k) answers = answers
+heard h limit (replied r) answers = record { limit = limit; status = getD r 2 0; bytes = drop (4 + h) r } ∷ answers
+
+abbrev pub Replied : Outcome → Type 0
+Replied (refused k) = ⊥
+Replied (replied r) = Unit {0}
+
+module _ (respond : Sent → Memory → Entered) where
+  -- the answers to the continued messages of a list, each message given the memory that the one before left
+  unfoldable pub talk : (h : ℕ) → Memory → List Answer → List Turn → List Answer
+  talk h m answers [] = answers
+  talk h m answers (ours s ∷ rest) = let e = respond s m in talk h (e .memory) (heard h (s .limit) (e .outcome) answers) rest
+  talk h m answers (other s ∷ rest) = talk h (respond s m .memory) answers rest
+
+  -- the premises on the list: each of ours is the read at the number of value bytes received, none follows status 0, an answered one has a
+  -- limit of at least 5 plus the type header; no other message changes a selected byte
+  unfoldable pub Fair : (reads : List ℕ → ℕ → Type 0) (selected : Memory → List ℕ) (h : ℕ) → Memory → List Answer → List Turn → Type 0
+  Fair reads selected h m answers [] = Unit {0}
+  Fair reads selected h m answers (ours s ∷ rest) =
+      reads (s .request) (length (joined answers))
+      × lastStatus answers ≢ 0
+      × (Replied (respond s m .outcome) → 5 + h ≤ s .limit)
+      × Fair reads selected h (respond s m .memory) (heard h (s .limit) (respond s m .outcome) answers) rest
+  Fair reads selected h m answers (other s ∷ rest) =
+      (selected (respond s m .memory) ≡ selected m)
+      × Fair reads selected h (respond s m .memory) answers rest
+
+-- what is claimed of the answers, the newest first, to continued reads of the selected bytes
+pub record Delivered (selected : List ℕ) (h : ℕ) (answers : List Answer) : Type 0 where
+  -- exactly the first of those selected, none skipped, none twice
+  pub first-of-them : joined answers ≡ take (length (joined answers)) selected
+  -- every answered read brings at least one
+  pub each-brings : Each (λ a. 0 < length (a .bytes)) answers
+  -- status 0 exactly when all are there
+  pub last-zero : (lastStatus answers ≡ 0) ↔ (joined answers ≡ selected)
+  -- no more reads than document 01's count
+  pub few : 0 < length answers → length answers ≤ replyCount (length selected) (space h (leastLimit answers))

@@ -1,0 +1,5 @@
+pub mod Cut
+pub mod Enters
+pub mod Replies
+pub mod Theorems
+pub mod ShutOut

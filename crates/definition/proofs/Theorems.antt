@@ -1,0 +1,126 @@
+-- The theorems that specs/Promises.antt states.
+-- Assumes nothing.
+use mathlib.Core.Path.{_≡_, refl, sym, ap, _∙_, subst}
+use mathlib.Core.Logic.{_≢_}
+use mathlib.Core.Bool.{Bool, true, false, not}
+use mathlib.Core.List.{List, [], _∷_}
+use Prim.Native.Nat.{ℕ, zero, suc, _≤_, _<_}
+use native.Mathlib.Omega.{arith}
+use lib.Dec.{ltb, leb, eqb}
+use lib.ListN.{length, getD}
+use borrow.Author.Tests.{ltb-true, ltb-false, leb-true, leb-false, eqb-true, eqb-false}
+use Rattle.laws.specs.Pick.{pick, both}
+use Rattle.laws.specs.Tests.{some-of}
+use Rattle.laws.proofs.Chain.{by-test, pick-all}
+use Rattle.definition.specs.Reply.{Answer, fail, reply, room}
+use Rattle.definition.specs.Segment.{Segment}
+use Rattle.definition.specs.Request.{Request, request, requestOf, Object, object, noObject, objectOf, isTagPath}
+use Rattle.definition.specs.Tables.{Tables, Flags}
+use Rattle.definition.specs.Types.{atomicSize, isAtomic, isStructure, typeHeader}
+use Rattle.definition.specs.Masked.{masked, maskedStored}
+use Rattle.definition.specs.Resolve.{Resolved, found, turned}
+use Rattle.definition.specs.Access.{tagTarget}
+use Rattle.definition.specs.Write.{Stored, store, noStore, storeAnswer, writeStored}
+use Rattle.definition.specs.Answer.{isWrite, isRead, isTagService, onTarget, tagService, byService, byObject, plain, anyRequest, answer}
+use Rattle.definition.specs.Entry.{Entered, refused, replied, refuse, lay, entry}
+use Rattle.definition.specs.Promises.{Refusal-changes-nothing, Reply-fits, Reply-has-a-status, Refused-write-changes-nothing, Masked-at-any-width, Element-sizes, Header-sizes}
+use Rattle.definition.proofs.Enters.{Enters, stopped, taken, enters}
+use Rattle.definition.proofs.Replies.{Proper, proper-answer}
+
+-- a refusal is no reply
+no-reply : {A : Type 0} (e : Entered) (number : ℕ) (buffer memory r : List ℕ) → e ≡ refuse number buffer memory → e .outcome ≡ replied r → A
+no-reply e number buffer memory r p q = absurd (let z : _≡_ {A = ℕ} 0 1 = cc (ap (λ (x : Entered). x .outcome) p) in omega arith)
+
+pub refusal-changes-nothing : Refusal-changes-nothing
+refusal-changes-nothing t f memory message limit buffer number e = go (enters t f memory message limit buffer)
+  where
+    go : Enters t f memory message limit buffer
+        → (0 < number) × (number ≤ 4) × (entry t f memory message limit buffer .buffer ≡ buffer) × (entry t f memory message limit buffer .memory ≡ memory)
+    go (stopped k low high p) =
+        let same : k ≡ number = cc (ap (λ (x : Entered). x .outcome) p) in
+        (omega arith, omega arith, ap (λ (x : Entered). x .buffer) p, ap (λ (x : Entered). x .memory) p)
+    go (taken a b c d p) = absurd (let z : _≡_ {A = ℕ} 0 1 = cc (ap (λ (x : Entered). x .outcome) p) in omega arith)
+
+-- what is replied is the dispatcher's, and proper
+proper : (t : Tables) (f : Flags) (memory message : List ℕ) (limit : ℕ) (buffer r : List ℕ)
+    → entry t f memory message limit buffer .outcome ≡ replied r → Proper limit r
+proper t f memory message limit buffer r e = go (enters t f memory message limit buffer)
+  where
+    go : Enters t f memory message limit buffer → Proper limit r
+    go (stopped k low high p) = no-reply _ k buffer memory r p e
+    go (taken a b c d p) =
+        let same : answer t f memory message limit .reply ≡ r = cc (ap (λ (x : Entered). x .outcome) p) in
+        subst (Proper limit) same (proper-answer t f memory message limit)
+
+pub reply-fits : Reply-fits
+reply-fits t f memory message limit buffer r e = proper t f memory message limit buffer r e .fits
+
+pub reply-has-a-status : Reply-has-a-status
+reply-has-a-status t f memory message limit buffer r e =
+    let h = proper t f memory message limit buffer r e .headed in (h .long, h .status)
+
+-- ---- a refused write
+
+-- an answer with status 0, or with the memory as it was
+abbrev Honest : List ℕ → Answer → Type 0
+Honest memory a = getD (a .reply) 2 0 ≢ 0x00 → a .memory ≡ memory
+
+store-honest : (service : ℕ) (s : Stored) (memory : List ℕ) → Honest memory (storeAnswer service s memory)
+unfolding reply
+store-honest service (store at bytes) memory n = absurd (n refl)
+store-honest service (noStore status) memory n = refl
+
+target-honest : (t : Tables) (memory : List ℕ) (service : ℕ) (r : Resolved) (body : List ℕ) (limit : ℕ) → Honest memory (onTarget t memory service r body limit)
+target-honest t memory service (turned status) body limit = λ n. refl
+target-honest t memory service (found g) body limit =
+    pick-all (Honest memory) (isRead service) (λ n. refl)
+    (pick-all (Honest memory) (eqb service 0x4E) (store-honest service (maskedStored memory g body) memory)
+    (store-honest service (writeStored t memory service g body) memory))
+
+service-honest : (t : Tables) (f : Flags) (memory : List ℕ) (service : ℕ) (path : List Segment) (body : List ℕ) (limit : ℕ)
+    → Honest memory (byService t f memory service path body limit)
+unfolding byService tagService
+service-honest t f memory service path body limit =
+    pick-all (Honest memory) (eqb service 0x55) (λ n. refl)
+    (pick-all (Honest memory) (both (isTagService service) (isTagPath path)) (target-honest t memory service (tagTarget t f (isWrite service) path) body limit) (λ n. refl))
+
+object-honest : (t : Tables) (f : Flags) (memory : List ℕ) (service : ℕ) (o : Object) (path : List Segment) (body : List ℕ) (limit : ℕ)
+    → Honest memory (byObject t f memory service o path body limit)
+object-honest t f memory service noObject path body limit = service-honest t f memory service path body limit
+object-honest t f memory service (object c i) path body limit =
+    pick-all (Honest memory) (both (eqb c 0x6B) (both (eqb service 0x03) (not (f .micro800)))) (λ n. refl)
+    (pick-all (Honest memory) (both (eqb c 0x6C) (eqb service 0x03)) (λ n. refl)
+    (pick-all (Honest memory) (both (eqb c 0x6C) (eqb service 0x4C)) (λ n. refl) (service-honest t f memory service path body limit)))
+
+-- a write is no envelope
+write-alone : (service : ℕ) → isWrite service ≡ true → eqb service 0x0A ≡ false
+write-alone service w =
+    by-test (eqb service 0x0A)
+    (λ e. absurd (let z : false ≡ true = subst (λ (k : ℕ). isWrite k ≡ true) (eqb-true service 0x0A e) w in let y : _≡_ {A = ℕ} 0 1 = cc z in omega arith)) (λ e. e)
+
+alone-honest : (t : Tables) (f : Flags) (memory message : List ℕ) (limit service : ℕ) (path : List Segment) (body : List ℕ)
+    → requestOf message ≡ request service path body → isWrite service ≡ true → Honest memory (answer t f memory message limit)
+unfolding answer plain
+alone-honest t f memory message limit service path body q w =
+    rw (q, write-alone service w) (object-honest t f memory service (objectOf path) path body limit)
+
+pub refused-write-changes-nothing : Refused-write-changes-nothing
+refused-write-changes-nothing t f memory message limit buffer r service path body q w e n = go (enters t f memory message limit buffer)
+  where
+    go : Enters t f memory message limit buffer → entry t f memory message limit buffer .memory ≡ memory
+    go (stopped k low high p) = ap (λ (x : Entered). x .memory) p
+    go (taken a b c d p) =
+        let same : answer t f memory message limit .reply ≡ r = cc (ap (λ (x : Entered). x .outcome) p) in
+        ap (λ (x : Entered). x .memory) p
+        ∙ alone-honest t f memory message limit service path body q w (subst (λ (l : List ℕ). getD l 2 0 ≢ 0) (sym same) n)
+
+-- ---- once for all widths
+
+pub masked-at-any-width : Masked-at-any-width
+unfolding masked
+masked-at-any-width [] ors ands p q = (refl, λ i h. absurd (omega arith))
+masked-at-any-width (b ∷ bs) [] ands p q = absurd (omega arith)
+masked-at-any-width (b ∷ bs) (o ∷ os) [] p q = absurd (omega arith)
+masked-at-any-width (b ∷ bs) (o ∷ os) (n ∷ ns) p q =
+    let rest = masked-at-any-width bs os ns (omega arith) (omega arith) in
+    (ap suc (rest .0), λ i. elim i [ zero ↦ λ h. refl | suc j ↦ λ h. rest .1 j (omega arith) ])

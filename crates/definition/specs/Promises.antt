@@ -1,0 +1,91 @@
+-- Theorems about the definition, each a named statement; proofs/Theorems.antt proves them. Document 01, points 1 and 2, and its "Envelope and limit".
+use mathlib.Core.Path.{_≡_}
+use mathlib.Core.Logic.{_≢_}
+use mathlib.Core.Bool.{Bool, true}
+use mathlib.Core.List.{List, [], _∷_}
+use Prim.Native.Nat.{ℕ, _+_, _*_, _≤_, _<_}
+use lib.Bits.{bitOr, bitAnd}
+use lib.Dec.{eqb}
+use lib.ListN.{length, getD}
+use Rattle.laws.specs.Tests.{some-of}
+use Rattle.definition.specs.Reply.{room}
+use Rattle.definition.specs.Segment.{Segment}
+use Rattle.definition.specs.Request.{request, requestOf}
+use Rattle.definition.specs.Tables.{Tables, Flags, tagOffset}
+use Rattle.definition.specs.Types.{atomicSize, isAtomic, elementSize, typeHeader}
+use Rattle.definition.specs.Lookup.{tagAt}
+use Rattle.definition.specs.Valid.{valid, tagEnd}
+use Rattle.definition.specs.Resolve.{Target, found}
+use Rattle.definition.specs.Access.{tagTarget}
+use Rattle.definition.specs.Masked.{masked}
+use Rattle.definition.specs.Answer.{isWrite}
+use Rattle.definition.specs.Entry.{Entered, refused, replied, entry}
+
+-- ---- for all tables, flags, memories, messages, limits and buffers
+
+-- an entry refusal is one of the four numbers, and leaves memory and buffer as they were
+abbrev pub Refusal-changes-nothing : Type 0
+Refusal-changes-nothing =
+    (t : Tables) (f : Flags) (memory message : List ℕ) (limit : ℕ) (buffer : List ℕ) (number : ℕ)
+    → entry t f memory message limit buffer .outcome ≡ refused number
+    → (0 < number) × (number ≤ 4) × (entry t f memory message limit buffer .buffer ≡ buffer) × (entry t f memory message limit buffer .memory ≡ memory)
+
+abbrev pub Memory-keeps-its-length : Type 0
+Memory-keeps-its-length =
+    (t : Tables) (f : Flags) (memory message : List ℕ) (limit : ℕ) (buffer : List ℕ)
+    → length (entry t f memory message limit buffer .memory) ≡ length memory
+
+abbrev pub Reply-fits : Type 0
+Reply-fits =
+    (t : Tables) (f : Flags) (memory message : List ℕ) (limit : ℕ) (buffer r : List ℕ)
+    → entry t f memory message limit buffer .outcome ≡ replied r → length r ≤ room limit
+
+-- the general statuses of items 5 to 20
+unfoldable pub isStatus : ℕ → Bool
+isStatus code =
+    some-of (eqb code) (0x00 ∷ 0x03 ∷ 0x04 ∷ 0x05 ∷ 0x06 ∷ 0x08 ∷ 0x0F ∷ 0x11 ∷ 0x13 ∷ 0x14 ∷ 0x15 ∷ 0x1E ∷ 0xFF ∷ [])
+
+-- whatever is sent, the reply has four bytes at least, and its third is one of these
+abbrev pub Reply-has-a-status : Type 0
+Reply-has-a-status =
+    (t : Tables) (f : Flags) (memory message : List ℕ) (limit : ℕ) (buffer r : List ℕ)
+    → entry t f memory message limit buffer .outcome ≡ replied r → (4 ≤ length r) × (isStatus (getD r 2 0) ≡ true)
+
+-- a refused 0x4D, 0x53 or 0x4E sent alone leaves tag memory as it was, on a tag path and on any other
+abbrev pub Refused-write-changes-nothing : Type 0
+Refused-write-changes-nothing =
+    (t : Tables) (f : Flags) (memory message : List ℕ) (limit : ℕ) (buffer r : List ℕ) (service : ℕ) (path : List Segment) (body : List ℕ)
+    → requestOf message ≡ request service path body → isWrite service ≡ true
+    → entry t f memory message limit buffer .outcome ≡ replied r → getD r 2 0 ≢ 0x00
+    → entry t f memory message limit buffer .memory ≡ memory
+
+-- ---- a target lies in its tag's bytes, and these in tag memory
+
+pub record Lies (t : Tables) (memory : ℕ) (g : Target) : Type 0 where
+  pub tag : g .tag < length (t .tags)
+  pub some-elements : 0 < g .count
+  pub some-bytes : 0 < elementSize t (g .type)
+  pub after-start : tagOffset (tagAt t (g .tag)) ≤ g .start
+  pub before-end : g .start + g .count * elementSize t (g .type) ≤ tagEnd t (tagAt t (g .tag))
+  pub in-memory : tagEnd t (tagAt t (g .tag)) ≤ memory
+
+abbrev pub Target-lies-in-its-tag : Type 0
+Target-lies-in-its-tag =
+    (t : Tables) (f : Flags) (memory : ℕ) (writes : Bool) (path : List Segment) (g : Target)
+    → valid t memory ≡ true → tagTarget t f writes path ≡ found g → Lies t memory g
+
+-- ---- once for all widths
+
+-- a masked write, byte by byte
+abbrev pub Masked-at-any-width : Type 0
+Masked-at-any-width =
+    (bytes ors ands : List ℕ) → length ors ≡ length bytes → length ands ≡ length bytes
+    → (length (masked bytes ors ands) ≡ length bytes)
+    × ((i : ℕ) → i < length bytes → getD (masked bytes ors ands) i 0 ≡ bitAnd (bitOr (getD bytes i 0) (getD ors i 0)) (getD ands i 0))
+
+-- an atomic element has 1, 2, 4 or 8 bytes; a type header has 2 or 4
+abbrev pub Element-sizes : Type 0
+Element-sizes = (code : ℕ) → isAtomic code ≡ true → some-of (eqb (atomicSize code)) (1 ∷ 2 ∷ 4 ∷ 8 ∷ []) ≡ true
+
+abbrev pub Header-sizes : Type 0
+Header-sizes = (t : Tables) (type : ℕ) → some-of (eqb (length (typeHeader t type))) (2 ∷ 4 ∷ []) ≡ true

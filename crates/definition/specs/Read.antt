@@ -1,0 +1,72 @@
+-- Document 01, item 16 and "Fragment": reads, plain (0x4C) and fragmented (0x52).
+-- 1756-PM020 (Read Tag, Read Tag Fragmented) defines the request's fields and the reply's header and data; document 01 alone the refusals' order.
+use mathlib.Core.Bool.{Bool}
+use mathlib.Core.List.{List, [], _∷_}
+use Prim.Native.Nat.{ℕ, _+_, _*_, _/_, _%_, _^_}
+use lib.Dec.{ltb, leb, eqb}
+use lib.ListN.{length, getD, drop}
+use Rattle.laws.specs.Pick.{pick}
+use Rattle.definition.specs.Bytes.{u16At, u32At, part}
+use Rattle.definition.specs.Reply.{Status, fail, tooShort, noElements, beyondEnd}
+use Rattle.definition.specs.Tables.{Tables, noBit}
+use Rattle.definition.specs.Types.{elementSize, typeHeader}
+use Rattle.definition.specs.Resolve.{Target, Resolved, found, turned}
+use Rattle.definition.specs.Fragment.{fragmentReply}
+
+-- the bytes that a read selects: so many from a first one, or a bit (8: none) of that one; and their type header
+pub record Selection : Type 0 where
+  pub start : ℕ
+  pub size : ℕ
+  pub bit : ℕ
+  pub header : List ℕ
+
+-- bit k of a byte, as the BOOL that it reads as
+abbrev pub bitOf : (b k : ℕ) → ℕ
+bitOf b k = b / 2 ^ k % 2
+
+-- of a tag memory; for a bit its BOOL byte
+unfoldable pub selectedBytes : Selection → (memory : List ℕ) → List ℕ
+selectedBytes s memory = pick (eqb (s .bit) noBit) (part memory (s .start) (s .size)) (bitOf (getD memory (s .start) 0) (s .bit) ∷ [])
+
+pub data Asked : Type 0 where
+  granted : Selection → Asked
+  notGranted : Status → Asked
+
+-- element count × element size bytes from the target's first
+unfoldable pub selection : Tables → Target → (elements : ℕ) → Selection
+selection t g elements = record {
+  start = g .start;
+  size = elements * elementSize t (g .type);
+  bit = g .bit;
+  header = typeHeader t (g .type);
+}
+
+-- all of item 16's refusals that depend neither on the offset nor on missing data
+unfoldable pub ask : Tables → Target → (elements : ℕ) → Asked
+ask t g elements =
+    pick (eqb (g .bit) noBit)
+    (pick (eqb elements 0) (notGranted noElements) (pick (ltb (g .count) elements) (notGranted beyondEnd) (granted (selection t g elements))))
+    (pick (eqb elements 1) (granted (selection t g elements)) (notGranted beyondEnd))
+
+-- a read of a path's target, found or not
+abbrev pub askTarget : Tables → Resolved → (elements : ℕ) → Asked
+askTarget t (found g) elements = ask t g elements
+askTarget t (turned status) elements = notGranted status
+
+-- the offset is checked last: at or past the length is beyond the end
+unfoldable pub sendFrom : (service : ℕ) (header value : List ℕ) (offset limit : ℕ) → List ℕ
+sendFrom service header value offset limit =
+    pick (leb (length value) offset) (fail service beyondEnd) (fragmentReply service header (drop offset value) limit)
+
+abbrev pub send : (service : ℕ) → Asked → (memory : List ℕ) (offset limit : ℕ) → List ℕ
+send service (granted s) memory offset limit = sendFrom service (s .header) (selectedBytes s memory) offset limit
+send service (notGranted status) memory offset limit = fail service status
+
+-- 0x52 has an offset of 32 bits behind the 16-bit element count; data beyond these fields is ignored
+abbrev pub isFragmented : (service : ℕ) → Bool
+isFragmented service = eqb service 0x52
+
+unfoldable pub readReply : Tables → (memory : List ℕ) (service : ℕ) → Target → (body : List ℕ) (limit : ℕ) → List ℕ
+readReply t memory service g body limit =
+    pick (ltb (length body) (pick (isFragmented service) 6 2)) (fail service tooShort)
+    (send service (ask t g (u16At body 0)) memory (pick (isFragmented service) (u32At body 2) 0) limit)

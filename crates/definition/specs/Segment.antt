@@ -1,0 +1,141 @@
+-- Document 01, "Segment": the 256 first bytes, the segment at a position of a path, and a path's segments.
+-- CIP Volume 1, Appendix C, sections on segments (port, logical, ANSI extended symbol) and padded EPATHs, defines the encodings; which of
+-- them are taken, and that a pad may hold anything, is document 01's.
+use mathlib.Core.Bool.{Bool}
+use mathlib.Core.List.{List, [], _∷_, map}
+use mathlib.Core.Option.{Option, none, some}
+use Prim.Native.Nat.{ℕ, _+_, _%_}
+use lib.Bits.{bitAnd}
+use lib.Dec.{ltb, leb, eqb}
+use lib.ListN.{length, getD}
+use Rattle.laws.specs.Pick.{pick}
+use Rattle.laws.specs.Items.{items}
+use Rattle.definition.specs.Bytes.{u16At, u32At, part}
+
+-- CIP Volume 1, Appendix C. No service minds a port's number or link, so a port is known by its end alone
+pub data Segment : Type 0 where
+  port : Segment
+  class : ℕ → Segment
+  instance : ℕ → Segment
+  element : ℕ → Segment
+  attribute : ℕ → Segment
+  symbol : (name : List ℕ) → Segment
+
+-- ---- the kind of a segment by its first byte
+
+pub data Kind : Type 0 where
+  portKind classKind instanceKind elementKind attributeKind symbolKind noKind : Kind
+
+-- 0x20 to 0x3F, masked with 0x1C
+abbrev pub logicalType : ℕ → Kind
+logicalType t =
+    pick (eqb t 0x00) classKind
+    (pick (eqb t 0x04) instanceKind
+    (pick (eqb t 0x08) elementKind
+    (pick (eqb t 0x10) attributeKind noKind)))
+
+-- the low two bits of a logical segment give its value's form: 0, 1 and 2, and 3 is invalid
+abbrev pub form : ℕ → ℕ
+form b = b % 4
+
+unfoldable pub kindOf : ℕ → Kind
+kindOf b =
+    pick (ltb b 0x20) portKind
+    (pick (ltb b 0x40) (pick (eqb (form b) 3) noKind (logicalType (bitAnd b 0x1C)))
+    (pick (eqb b 0x91) symbolKind noKind))
+
+-- ---- the segment at a position, with the position where the next one starts; `cut`: invalid, or the path ends inside it
+
+pub data Step : Type 0 where
+  step : Segment → (next : ℕ) → Step
+  cut : Step
+
+-- `need` bytes stand in the path from `at` on: the segment, which ends behind them
+abbrev pub within : (path : List ℕ) (at need : ℕ) → Segment → Step
+within path at need s = pick (leb (at + need) (length path)) (step s (at + need)) cut
+
+-- form 0: an 8-bit value; 1: a pad and 16 bits; 2: a pad and 32 bits
+unfoldable pub logicalAt : (path : List ℕ) (at : ℕ) (f : ℕ) → (ℕ → Segment) → Step
+logicalAt path at f make =
+    pick (eqb f 0) (within path at 1 (make (getD path at 0)))
+    (pick (eqb f 1) (within path at 3 (make (u16At path (at + 1))))
+    (within path at 5 (make (u32At path (at + 1)))))
+
+-- a size byte, as many bytes, a pad if odd
+unfoldable pub sizedAt : (path : List ℕ) (at : ℕ) → (List ℕ → Segment) → Step
+sizedAt path at make =
+    let n = getD path at 0 in
+    pick (ltb at (length path)) (within path (at + 1) (n + n % 2) (make (part path (at + 1) n))) cut
+
+-- behind a port's number: the link with its size (bit 0x10), or one link byte
+unfoldable pub linkAt : (path : List ℕ) (at b : ℕ) → Step
+linkAt path at b = pick (ltb b 0x10) (within path at 1 port) (sizedAt path at (λ link. port))
+
+-- a port number of 15 means that a 16-bit number follows, before anything else
+unfoldable pub portAt : (path : List ℕ) (at b : ℕ) → Step
+portAt path at b = pick (eqb (b % 16) 15) (linkAt path (at + 2) b) (linkAt path at b)
+
+-- what follows the first byte b, from `at` on
+abbrev pub byKind : Kind → (path : List ℕ) (at b : ℕ) → Step
+byKind portKind path at b = portAt path at b
+byKind classKind path at b = logicalAt path at (form b) class
+byKind instanceKind path at b = logicalAt path at (form b) instance
+byKind elementKind path at b = logicalAt path at (form b) element
+byKind attributeKind path at b = logicalAt path at (form b) attribute
+byKind symbolKind path at b = sizedAt path at symbol
+byKind noKind path at b = cut
+
+unfoldable pub segmentAt : (path : List ℕ) (at : ℕ) → Step
+segmentAt path at = let b = getD path at 0 in byKind (kindOf b) path (at + 1) b
+
+-- ---- the segments of a whole path
+
+abbrev pub nextOf : Step → ℕ
+nextOf (step s next) = next
+nextOf cut = 0
+
+abbrev pub segmentOf : Step → Segment
+segmentOf (step s next) = s
+segmentOf cut = port
+
+abbrev pub onlySegments : Option (List Step) → Option (List Segment)
+onlySegments none = none
+onlySegments (some steps) = some (map segmentOf steps)
+
+-- none where one is invalid or cut short; a path has no more segments than bytes
+unfoldable pub segments : List ℕ → Option (List Segment)
+segments path = onlySegments (items (segmentAt path) nextOf (length path) (length path) 0)
+
+-- ---- what a segment is
+
+abbrev pub classOf : Segment → Option ℕ
+classOf port = none
+classOf (class c) = some c
+classOf (instance i) = none
+classOf (element e) = none
+classOf (attribute a) = none
+classOf (symbol s) = none
+
+abbrev pub instanceOf : Segment → Option ℕ
+instanceOf port = none
+instanceOf (class c) = none
+instanceOf (instance i) = some i
+instanceOf (element e) = none
+instanceOf (attribute a) = none
+instanceOf (symbol s) = none
+
+abbrev pub elementOf : Segment → Option ℕ
+elementOf port = none
+elementOf (class c) = none
+elementOf (instance i) = none
+elementOf (element e) = some e
+elementOf (attribute a) = none
+elementOf (symbol s) = none
+
+abbrev pub nameOf : Segment → Option (List ℕ)
+nameOf port = none
+nameOf (class c) = none
+nameOf (instance i) = none
+nameOf (element e) = none
+nameOf (attribute a) = none
+nameOf (symbol s) = some s

@@ -1,0 +1,160 @@
+-- Document 01, "Type, member, tag": the table set, as rows of 32-bit words, and its rows' fields by name. The flags.
+-- Document 01 alone defines the tables; how they are laid out in rows is this project's choice (docs/DECISIONS.md).
+use mathlib.Core.Bool.{Bool, not}
+use mathlib.Core.List.{List, [], _∷_}
+use Prim.Native.Nat.{ℕ}
+use lib.Dec.{eqb}
+use lib.ListN.{getD, take, drop}
+use Rattle.laws.specs.Pick.{pick, both}
+use Rattle.definition.specs.Bytes.{part}
+
+abbrev pub Row : Type 0
+Row = List ℕ
+
+pub record Tables : Type 0 where
+  pub structures : List Row
+  pub members : List Row
+  pub programs : List Row
+  pub tags : List Row
+  pub others : List Row
+  -- the bytes of all names but the tags', of the tags' names, and of the templates
+  pub names : List ℕ
+  pub tagNames : List ℕ
+  pub templates : List ℕ
+
+abbrev pub field : ℕ → Row → ℕ
+field k r = getD r k 0
+
+-- ---- a structure
+
+abbrev pub structureName : Tables → Row → List ℕ
+structureName t r = part (t .names) (field 0 r) (field 1 r)
+
+abbrev pub templateId : Row → ℕ
+templateId r = field 2 r
+
+abbrev pub handle : Row → ℕ
+handle r = field 3 r
+
+abbrev pub structureSize : Row → ℕ
+structureSize r = field 4 r
+
+abbrev pub firstMember : Row → ℕ
+firstMember r = field 5 r
+
+abbrev pub memberCount : Row → ℕ
+memberCount r = field 6 r
+
+abbrev pub isAoi : Row → ℕ
+isAoi r = field 7 r
+
+abbrev pub templateStart : Row → ℕ
+templateStart r = field 8 r
+
+abbrev pub templateLength : Row → ℕ
+templateLength r = field 9 r
+
+abbrev pub structureAt : Tables → ℕ → Row
+structureAt t i = getD (t .structures) i []
+
+abbrev pub membersOf : Tables → Row → List Row
+membersOf t r = take (memberCount r) (drop (firstMember r) (t .members))
+
+-- ---- a member: an array length of 0 is no array, a bit of 8 is none
+
+abbrev pub memberName : Tables → Row → List ℕ
+memberName t r = part (t .names) (field 0 r) (field 1 r)
+
+abbrev pub memberType : Row → ℕ
+memberType r = field 2 r
+
+abbrev pub memberLength : Row → ℕ
+memberLength r = field 3 r
+
+abbrev pub memberOffset : Row → ℕ
+memberOffset r = field 4 r
+
+abbrev pub memberBit : Row → ℕ
+memberBit r = field 5 r
+
+abbrev pub noBit : ℕ
+noBit = 8
+
+abbrev pub isHidden : Row → ℕ
+isHidden r = field 6 r
+
+abbrev pub isLocal : Row → ℕ
+isLocal r = field 7 r
+
+abbrev pub memberAccess : Row → ℕ
+memberAccess r = field 8 r
+
+-- ---- a program: its name without `Program:`
+
+abbrev pub programName : Tables → Row → List ℕ
+programName t r = part (t .names) (field 0 r) (field 1 r)
+
+-- ---- a tag: scope 0 is the controller, k + 1 program k; three lengths, nonzero first
+
+abbrev pub tagScope : Row → ℕ
+tagScope r = field 0 r
+
+abbrev pub tagName : Tables → Row → List ℕ
+tagName t r = part (t .tagNames) (field 1 r) (field 2 r)
+
+abbrev pub tagId : Row → ℕ
+tagId r = field 3 r
+
+abbrev pub tagType : Row → ℕ
+tagType r = field 4 r
+
+abbrev pub tagLengths : Row → List ℕ
+tagLengths r = take 3 (drop 5 r)
+
+-- the nonzero ones, which stand first
+abbrev pub nonzero : List ℕ → List ℕ
+nonzero [] = []
+nonzero (n ∷ ns) = pick (eqb n 0) [] (n ∷ nonzero ns)
+
+abbrev pub lengthsOf : Row → List ℕ
+lengthsOf r = nonzero (tagLengths r)
+
+abbrev pub tagElements : Row → ℕ
+tagElements r = field 8 r
+
+abbrev pub tagAccess : Row → ℕ
+tagAccess r = field 9 r
+
+abbrev pub isAlias : Row → ℕ
+isAlias r = field 10 r
+
+abbrev pub tagOffset : Row → ℕ
+tagOffset r = field 11 r
+
+-- ---- another symbol
+
+abbrev pub otherScope : Row → ℕ
+otherScope r = field 0 r
+
+abbrev pub otherName : Tables → Row → List ℕ
+otherName t r = part (t .names) (field 1 r) (field 2 r)
+
+abbrev pub otherId : Row → ℕ
+otherId r = field 3 r
+
+abbrev pub otherType : Row → ℕ
+otherType r = field 4 r
+
+-- ---- the flags; micro800 turns the first two off
+
+pub record Flags : Type 0 where
+  pub multiService : Bool
+  pub instanceIds : Bool
+  pub aoiLocalsRefused : Bool
+  pub micro800 : Bool
+
+abbrev pub takesEnvelopes : Flags → Bool
+takesEnvelopes f = both (f .multiService) (not (f .micro800))
+
+abbrev pub takesInstances : Flags → Bool
+takesInstances f = both (f .instanceIds) (not (f .micro800))

@@ -1,0 +1,63 @@
+-- Document 01, "Type, member, tag": the atomic codes with their sizes, type words, the type header.
+-- CIP Volume 1, Appendix C, defines the codes and sizes; 1756-PM020 the header 0xA0 0x02 with a structure's handle. A type word (an atomic code, or
+-- 0x100 plus a structure's index) is this project's encoding.
+use mathlib.Core.Bool.{Bool, not}
+use mathlib.Core.List.{List, [], _∷_}
+use Prim.Native.Nat.{ℕ, _-_, _*_}
+use lib.Bits.{bitOr}
+use lib.Dec.{ltb, leb, eqb}
+use lib.ListN.{getD}
+use Rattle.laws.specs.Pick.{pick, both, isEmpty}
+use Rattle.definition.specs.Bytes.{le16}
+use Rattle.definition.specs.Tables.{Tables, Row, handle, structureSize, structureAt, templateId, tagType, lengthsOf}
+
+-- BOOL, SINT, INT, DINT, LINT, USINT, UINT, UDINT, ULINT, REAL, LREAL; BYTE, WORD, DWORD, LWORD; 0 for what is no atomic code
+unfoldable pub atomicSize : (code : ℕ) → ℕ
+atomicSize code =
+    pick (ltb code 0xC1) 0
+    (pick (leb code 0xCB) (getD (1 ∷ 1 ∷ 2 ∷ 4 ∷ 8 ∷ 1 ∷ 2 ∷ 4 ∷ 8 ∷ 4 ∷ 8 ∷ []) (code - 0xC1) 0)
+    (pick (ltb code 0xD1) 0
+    (pick (leb code 0xD4) (getD (1 ∷ 2 ∷ 4 ∷ 8 ∷ []) (code - 0xD1) 0) 0)))
+
+abbrev pub isAtomic : ℕ → Bool
+isAtomic code = ltb 0 (atomicSize code)
+
+abbrev pub BOOL : ℕ
+BOOL = 0xC1
+
+abbrev pub REAL : ℕ
+REAL = 0xCA
+
+abbrev pub LREAL : ℕ
+LREAL = 0xCB
+
+abbrev pub DWORD : ℕ
+DWORD = 0xD3
+
+-- what a masked write may change: an atomic type other than BOOL, REAL and LREAL
+unfoldable pub hasBits : ℕ → Bool
+hasBits type = both (isAtomic type) (both (not (eqb type BOOL)) (both (not (eqb type REAL)) (not (eqb type LREAL))))
+
+-- a DWORD tag with at least one length holds a BOOL array
+unfoldable pub isDwordArray : Row → Bool
+isDwordArray r = both (eqb (tagType r) DWORD) (not (isEmpty (lengthsOf r)))
+
+-- ---- type words
+
+abbrev pub isStructure : (type : ℕ) → Bool
+isStructure type = leb 0x100 type
+
+abbrev pub structureOf : Tables → (type : ℕ) → Row
+structureOf t type = structureAt t (type - 0x100)
+
+-- the bytes of one element
+unfoldable pub elementSize : Tables → (type : ℕ) → ℕ
+elementSize t type = pick (isStructure type) (structureSize (structureOf t type)) (atomicSize type)
+
+-- code and 0, or 0xA0 0x02 and the 16-bit structure handle
+unfoldable pub typeHeader : Tables → (type : ℕ) → List ℕ
+typeHeader t type = pick (isStructure type) (0xA0 ∷ 0x02 ∷ le16 (handle (structureOf t type))) (type ∷ 0 ∷ [])
+
+-- the symbol type: the code, or 0x8000 OR template ID, OR number of lengths × 0x2000 (1756-PM020, Symbol object, attribute 2)
+unfoldable pub symbolType : Tables → (type lengths : ℕ) → ℕ
+symbolType t type lengths = bitOr (pick (isStructure type) (bitOr 0x8000 (templateId (structureOf t type))) type) (lengths * 0x2000)

@@ -1,0 +1,84 @@
+-- An answer by a chain of tests, from the facts of the branches that led to it: `search (needs, chain)`.
+-- Assumes nothing.
+use mathlib.Core.Path.{_≡_, refl, sym, _∙_, ap}
+use mathlib.Core.Bool.{Bool, true, false}
+use Prim.Native.Nat.{ℕ, _+_, _-_, _<_, _≤_}
+use native.Mathlib.Omega.{arith}
+use lib.Dec.{ltb, eqb}
+use borrow.Author.Tests.{lt-ltb, le-ltb, le-leb, lt-leb, eq-eqb, ne-eqb}
+use Rattle.laws.specs.Pick.{pick, both}
+
+pub pick-yes : {A : Type 0} (t : Bool) (v a b : A) → t ≡ true → v ≡ a → v ≡ pick t a b
+pick-yes t v a b e p = rw e p
+
+pub pick-no : {A : Type 0} (t : Bool) (v a b : A) → t ≡ false → v ≡ b → v ≡ pick t a b
+pick-no t v a b e p = rw e p
+
+pub both-yes : (t u r : Bool) → t ≡ true → r ≡ u → r ≡ both t u
+both-yes t u r e p = rw e p
+
+pub both-no : (t u : Bool) → t ≡ false → false ≡ both t u
+both-no t u e = rw e
+
+-- a loop that goes on to a position further on: its measure falls, and what counts its turns stays below the position
+pub falls-to : (e at n : ℕ) → at < e → at < n → e - n < e - at
+falls-to e at n h l = omega arith
+
+pub count-to : (k at n : ℕ) → k ≤ at → at < n → k + 1 ≤ n
+count-to k at n h l = omega arith
+
+pub both-on : (t u : Bool) → t ≡ true → u ≡ true → both t u ≡ true
+both-on t u e f = rw (e, f)
+
+pub both-off : (t u : Bool) → t ≡ false → both t u ≡ false
+both-off t u e = rw e
+
+pub both-off-2 : (t u : Bool) → u ≡ false → both t u ≡ false
+both-off-2 true u e = e
+both-off-2 false u e = refl
+
+-- the value of a test that is made in place
+pub ruleset tests = (both-on, both-off, both-off-2, lt-ltb, le-ltb, le-leb, lt-leb, eq-eqb, ne-eqb)
+
+pub ruleset chain = (pick-yes, pick-no, both-yes, both-no, lt-ltb, le-ltb, le-leb, lt-leb, eq-eqb, ne-eqb)
+
+-- a case by a test, with the test's outcome as a fact
+pub by-test : {P : Type 0} (t : Bool) → (t ≡ true → P) → (t ≡ false → P) → P
+by-test true f g = f refl
+by-test false f g = g refl
+
+pub pick-map : {A B : Type 0} (h : A → B) (t : Bool) (a b : A) → h (pick t a b) ≡ pick t (h a) (h b)
+pick-map h true a b = refl
+pick-map h false a b = refl
+
+-- what holds of both answers holds of the one that is picked
+pub pick-all : {A : Type 0} (P : A → Type 0) (t : Bool) {a b : A} → P a → P b → P (pick t a b)
+pick-all P true p q = p
+pick-all P false p q = q
+
+-- the same where the test is on what a call returned: r or k is the result, and the first premise is the callee's `ensures`
+pub pick-yes-by : {A : Type 0} (r t : Bool) (v a b : A) → r ≡ t → r ≡ true → v ≡ a → v ≡ pick t a b
+pick-yes-by r t v a b q e p = rw (← q, e) p
+
+pub pick-no-by : {A : Type 0} (r t : Bool) (v a b : A) → r ≡ t → r ≡ false → v ≡ b → v ≡ pick t a b
+pick-no-by r t v a b q e p = rw (← q, e) p
+
+pub both-yes-by : (s t u r : Bool) → s ≡ t → s ≡ true → r ≡ u → r ≡ both t u
+both-yes-by s t u r q e p = rw (← q, e) p
+
+pub both-no-by : (s t u : Bool) → s ≡ t → s ≡ false → false ≡ both t u
+both-no-by s t u q e = rw (← q, e)
+
+pub eq-by : (k x n : ℕ) → k ≡ x → k ≡ n → eqb x n ≡ true
+eq-by k x n q e = eq-eqb x n (sym q ∙ e)
+
+pub ne-by : (k x n : ℕ) → k ≡ x → (k ≡ n → ⊥) → eqb x n ≡ false
+ne-by k x n q e = ne-eqb x n (λ r. e (q ∙ r))
+
+pub lt-by : (k x n : ℕ) → k ≡ x → k < n → ltb x n ≡ true
+lt-by k x n q h = lt-ltb x n (omega arith)
+
+pub ge-by : (k x n : ℕ) → k ≡ x → n ≤ k → ltb x n ≡ false
+ge-by k x n q h = le-ltb x n (omega arith)
+
+pub ruleset by-call = (pick-yes-by, pick-no-by, both-yes-by, both-no-by, eq-by, ne-by, lt-by, ge-by)

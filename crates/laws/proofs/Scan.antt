@@ -1,0 +1,35 @@
+-- A loop that looks for the first element that passes a test: the invariant is `scan p hit miss i (drop i xs) ≡ scan p hit miss 0 xs`.
+-- Assumes nothing.
+use mathlib.Core.Path.{_≡_, _∙_}
+use mathlib.Core.Bool.{Bool, true, false}
+use mathlib.Core.List.{List}
+use Prim.Native.Nat.{ℕ, _+_, _<_, _≤_}
+use native.Mathlib.Numerals.{add-one}
+use lib.ListN.{length, getD, drop, drop-of-length-le}
+use lib.Seq.{drop-cons}
+use Rattle.laws.specs.Scan.{scan}
+
+-- the scan from i on is the whole scan: where a loop that has found nothing yet is
+module _ {A R : Type 0} (p : A → Bool) (hit : ℕ → R) (miss : R) (d : A) (i : ℕ) (xs : List A) (here : scan p hit miss i (drop i xs) ≡ scan p hit miss 0 xs) where
+  pub scan-next : {r : Bool} {j : ℕ} → i < length xs → r ≡ p (getD xs i d) → r ≡ false → j ≡ i + 1 → scan p hit miss j (drop j xs) ≡ scan p hit miss 0 xs
+  unfolding scan
+  scan-next h e n t = rw (t, add-one) (rw (drop-cons xs i d, ← e, n) at here)
+
+  pub scan-found : {r : Bool} {v : R} → i < length xs → r ≡ p (getD xs i d) → r ≡ true → v ≡ hit i → v ≡ scan p hit miss 0 xs
+  unfolding scan
+  scan-found h e y t = t ∙ rw (drop-cons xs i d, ← e, y) at here
+
+  pub scan-none : length xs ≤ i → miss ≡ scan p hit miss 0 xs
+  unfolding scan
+  scan-none h = rw (drop-of-length-le xs h) at here
+
+  -- the same, with the test's value itself, for a test that the loop makes in place
+  pub scan-skip : (j : ℕ) → i < length xs → p (getD xs i d) ≡ false → j ≡ i + 1 → scan p hit miss j (drop j xs) ≡ scan p hit miss 0 xs
+  unfolding scan
+  scan-skip j h e t = rw (t, add-one) (rw (drop-cons xs i d, e) at here)
+
+  pub scan-hit : (v : R) → i < length xs → p (getD xs i d) ≡ true → v ≡ hit i → v ≡ scan p hit miss 0 xs
+  unfolding scan
+  scan-hit v h e t = t ∙ rw (drop-cons xs i d, e) at here
+
+pub ruleset scans = (scan-next, scan-found, scan-none)

@@ -1,0 +1,17 @@
+-- A test of each element of a list, of each two elements, and of some element.
+use mathlib.Core.Bool.{Bool, true, false}
+use mathlib.Core.List.{List, [], _∷_}
+use Rattle.laws.specs.Pick.{both, either}
+
+unfoldable pub every : {A : Type 0} → (A → Bool) → List A → Bool
+every p [] = true
+every p (x ∷ xs) = both (p x) (every p xs)
+
+unfoldable pub some-of : {A : Type 0} → (A → Bool) → List A → Bool
+some-of p [] = false
+some-of p (x ∷ xs) = either (p x) (some-of p xs)
+
+-- each element against each that stands after it
+unfoldable pub pairs : {A : Type 0} → (A → A → Bool) → List A → Bool
+pairs p [] = true
+pairs p (x ∷ xs) = both (every (p x) xs) (pairs p xs)
