@@ -1,6 +1,6 @@
 -- Document 01, "Pallet bench": the starred lines as a table of request, limit, expected reply and expected tag memory.
 use mathlib.Core.List.{List, [], _∷_, _++_}
-use Rattle.definition.specs.Pallet.{palletMemory, upFrom, Line, count, rows, cellRun, line, rowsFrom}
+use Rattle.definition.specs.Pallet.{palletMemory, upFrom, Line, count, cellRun, line, rowsFrom}
 
 unfoldable pub starred : List Line
 starred =

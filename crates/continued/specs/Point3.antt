@@ -13,7 +13,7 @@ use Rattle.definition.specs.Tables.{Tables, Flags}
 use Rattle.definition.specs.Valid.{valid}
 use Rattle.definition.specs.Access.{tagTarget}
 use Rattle.definition.specs.Read.{Selection, granted, askTarget}
-use Rattle.definition.specs.Symbols.{Start, isListed, pageStart}
+use Rattle.definition.specs.Symbols.{isListed, pageStart}
 use Rattle.definition.specs.Entry.{Entered, entry}
 use Rattle.continued.specs.Reads.{Memory, Sent}
 

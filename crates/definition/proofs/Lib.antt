@@ -1,5 +1,9 @@
+pub mod Against
 pub mod Cut
 pub mod Enters
+pub mod Facts
+pub mod Inside
 pub mod Replies
+pub mod Selected
+pub mod Stored
 pub mod Theorems
-pub mod ShutOut

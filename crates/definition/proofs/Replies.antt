@@ -2,18 +2,18 @@
 -- Assumes nothing.
 use mathlib.Core.Path.{_≡_, refl}
 use mathlib.Core.Bool.{Bool, true, not}
-use mathlib.Core.List.{List, [], _∷_, _++_}
+use mathlib.Core.List.{List, [], _∷_}
 use mathlib.Core.Option.{Option, none, some}
-use Prim.Native.Nat.{ℕ, zero, suc, _+_, _-_, _*_, _≤_, min}
+use Prim.Native.Nat.{ℕ, suc, _+_, _-_, _*_, _≤_, min}
 use native.Mathlib.Omega.{arith}
 use lib.Dec.{ltb, leb, eqb}
-use lib.ListN.{length, take, drop, getD, length-append, length-take, length-drop}
-use borrow.Author.Tests.{leb-true, leb-false}
+use lib.ListN.{length, take, drop, getD, length-append, length-take}
+use borrow.Author.Tests.{leb-true}
 use Rattle.laws.specs.Pick.{pick, both, either, isEmpty, isSome}
 use Rattle.laws.specs.Tests.{every, some-of}
 use Rattle.laws.proofs.Chain.{by-test, pick-all}
 use Rattle.definition.specs.Bytes.{part, u16At, u32At, counted}
-use Rattle.definition.specs.Reply.{Status, general, extended, codeOf, wordsOf, reply, fail, Answer, answered, room}
+use Rattle.definition.specs.Reply.{Status, general, extended, codeOf, reply, fail, Answer, answered, room}
 use Rattle.definition.specs.Segment.{Segment, nameOf}
 use Rattle.definition.specs.Request.{Request, malformed, request, requestOf, Object, object, noObject, objectOf, isTagPath, symbolInstance}
 use Rattle.definition.specs.Tables.{Tables, Flags, Row, templateStart, templateLength, structureAt, membersOf, isLocal, noBit, takesInstances, takesEnvelopes}
@@ -22,18 +22,18 @@ use Rattle.definition.specs.Lookup.{marked, structureWithTemplate, progr
 use Rattle.definition.specs.Names.{isProgramName, afterPrefix}
 use Rattle.definition.specs.Resolve.{Target, Resolved, found, turned, Move, indexes, member, stray, moves, allBelow, index, memberOf, memberFound, visibleMember, walk, moveTo, andThen, fromTag, byInstance, byName, inScope, inProgram, scopedBy, resolve, wholeTag}
 use Rattle.definition.specs.Access.{isDenied, permitted, tagTarget}
-use Rattle.definition.specs.Fragment.{space, sizeOf, statusOf, fragmentReply}
-use Rattle.definition.specs.Read.{Selection, Asked, granted, notGranted, selection, ask, sendFrom, send, readReply, selectedBytes, isFragmented}
+use Rattle.definition.specs.Fragment.{space, statusOf, fragmentReply}
+use Rattle.definition.specs.Read.{Asked, granted, notGranted, selection, ask, sendFrom, send, readReply, selectedBytes, isFragmented}
 use Rattle.definition.specs.Write.{Stored, store, noStore, storeAnswer, Fields, fieldsSize, fieldsOf, writeStored, writeBit, typeMatches, writeValue, writePart}
 use Rattle.definition.specs.Masked.{takesMask, maskedStored}
 use Rattle.definition.specs.Template.{sendTemplate, templateReply}
-use Rattle.definition.specs.Attributes.{listReply, structureList, structureAttributes, symbolAttributes, structureAttribute}
+use Rattle.definition.specs.Attributes.{listReply, structureList, structureAttributes, symbolAttributes}
 use Rattle.definition.specs.Page.{Entry, bytesOf, fitting, firstUnfit, pageReply}
 use Rattle.definition.specs.Symbols.{Start, isListed, pageStart, pageOf, pageFrom, listSymbols}
 use Rattle.definition.specs.Envelope.{Replies, envelopeReply, closeEnvelope, answerParts, envelope, partsOf, Dispatcher}
-use Rattle.definition.specs.Answer.{capped, readTemplate, isRead, isWrite, isTagService, isRouter, onTarget, tagService, otherwise, byService, byObject, plain, plainRequest, partDispatch, anyRequest, answer}
+use Rattle.definition.specs.Answer.{capped, readTemplate, isRead, isWrite, isTagService, isRouter, onTarget, tagService, otherwise, byService, byObject, plain, partDispatch, anyRequest, answer}
 use Rattle.definition.specs.Promises.{isStatus}
-use Rattle.definition.proofs.Cut.{Cut, whole, part as cutShort, cuts, size-fits}
+use Rattle.definition.proofs.Cut.{size-fits}
 
 -- ---- a reply that has a status, and one that also fits
 
@@ -301,24 +301,37 @@ unfolding isStatus some-of
 headed-otherwise service noObject = headed-reply service _ _ refl
 headed-otherwise service (object c i) = headed-reply service _ _ (pick-all Known (either (eqb c 0x02) (eqb c 0x6C)) refl refl)
 
-proper-service : (t : Tables) (f : Flags) (memory : List ℕ) (service : ℕ) (path : List Segment) (body : List ℕ) (limit : ℕ)
-    → Proper limit (byService t f memory service path body limit .reply)
-unfolding byService listSymbols tagService
-proper-service t f memory service path body limit =
-    pick-all (λ (a : Answer). Proper limit (a .reply)) (eqb service 0x55) (proper-page-from t service (pageStart t path) body limit)
-    (pick-all (λ (a : Answer). Proper limit (a .reply)) (both (isTagService service) (isTagPath path)) (proper-target t memory service (tagTarget t f (isWrite service) path) body limit (target-well t f (isWrite service) path))
-    (proper-capped service limit _ (headed-otherwise service (objectOf path))))
+-- what holds of each reply that leaves the memory, and of a tag service's answer, holds of every answer to a request that is no envelope
+module _ (P : Answer → Type 0) (t : Tables) (f : Flags) (memory : List ℕ) (service : ℕ) (path : List Segment) (body : List ℕ) (limit : ℕ)
+    (still : (r : List ℕ) → Proper limit r → P (answered r memory)) (tag : P (tagService t f memory service path body limit)) where
+  service-all : P (byService t f memory service path body limit)
+  unfolding byService listSymbols
+  service-all =
+      pick-all P (eqb service 0x55) (still _ (proper-page-from t service (pageStart t path) body limit))
+      (pick-all P (both (isTagService service) (isTagPath path)) tag (still _ (proper-capped service limit _ (headed-otherwise service (objectOf path)))))
 
-proper-object : (t : Tables) (f : Flags) (memory : List ℕ) (service : ℕ) (o : Object) (path : List Segment) (body : List ℕ) (limit : ℕ)
-    → Proper limit (byObject t f memory service o path body limit .reply)
-unfolding symbolAttributes structureAttributes isStatus some-of
-proper-object t f memory service noObject path body limit = proper-service t f memory service path body limit
-proper-object t f memory service (object c i) path body limit =
-    pick-all (λ (a : Answer). Proper limit (a .reply)) (both (eqb c 0x6B) (both (eqb service 0x03) (not (f .micro800))))
-    (proper-capped service limit _ (pick-all Headed (either (isSome (otherWithId t 0 i)) (isSome (tagWithId t 0 i))) (headed-list service _ (counted body)) (headed-reply service _ _ refl)))
-    (pick-all (λ (a : Answer). Proper limit (a .reply)) (both (eqb c 0x6C) (eqb service 0x03)) (proper-capped service limit _ (headed-structure t service (structureWithTemplate t i) body))
-    (pick-all (λ (a : Answer). Proper limit (a .reply)) (both (eqb c 0x6C) (eqb service 0x4C)) (proper-read-template t service (structureWithTemplate t i) body limit)
-    (proper-service t f memory service path body limit)))
+  object-all : (o : Object) → P (byObject t f memory service o path body limit)
+  unfolding symbolAttributes structureAttributes isStatus some-of
+  object-all noObject = service-all
+  object-all (object c i) =
+      pick-all P (both (eqb c 0x6B) (both (eqb service 0x03) (not (f .micro800))))
+      (still _ (proper-capped service limit _ (pick-all Headed (either (isSome (otherWithId t 0 i)) (isSome (tagWithId t 0 i)))
+      (headed-list service _ (counted body)) (headed-reply service _ _ refl))))
+      (pick-all P (both (eqb c 0x6C) (eqb service 0x03))
+      (still _ (proper-capped service limit _ (headed-structure t service (structureWithTemplate t i) body)))
+      (pick-all P (both (eqb c 0x6C) (eqb service 0x4C))
+      (still _ (proper-read-template t service (structureWithTemplate t i) body limit)) service-all))
+
+  pub plain-all : P (plain t f memory service path body limit)
+  unfolding plain
+  plain-all = object-all (objectOf path)
+
+proper-plain : (t : Tables) (f : Flags) (memory : List ℕ) (service : ℕ) (path : List Segment) (body : List ℕ) (limit : ℕ)
+    → Proper limit (plain t f memory service path body limit .reply)
+unfolding tagService
+proper-plain t f memory service path body limit =
+    plain-all (λ (a : Answer). Proper limit (a .reply)) t f memory service path body limit (λ r p. p)
+    (proper-target t memory service (tagTarget t f (isWrite service) path) body limit (target-well t f (isWrite service) path))
 
 proper-close : (limit : ℕ) (rs : Replies) → Proper limit (closeEnvelope limit rs .reply)
 unfolding closeEnvelope envelopeReply isStatus some-of
@@ -333,12 +346,12 @@ proper-parts d memory none limit = proper-fail limit 0x0A _ refl
 proper-parts d memory (some parts) limit = proper-close limit _
 
 proper-request : (t : Tables) (f : Flags) (memory message : List ℕ) (q : Request) (limit : ℕ) → Proper limit (anyRequest t f memory message q limit .reply)
-unfolding envelope plain isStatus some-of
+unfolding envelope isStatus some-of
 proper-request t f memory message malformed limit = proper-fail limit (getD message 0 0) _ refl
 proper-request t f memory message (request service path body) limit =
     pick-all (λ (a : Answer). Proper limit (a .reply)) (both (eqb service 0x0A) (isRouter (objectOf path)))
     (pick-all (λ (a : Answer). Proper limit (a .reply)) (takesEnvelopes f) (proper-parts (partDispatch t f) memory (partsOf body) limit) (proper-fail limit 0x0A _ refl))
-    (proper-object t f memory service (objectOf path) path body limit)
+    (proper-plain t f memory service path body limit)
 
 pub proper-answer : (t : Tables) (f : Flags) (memory message : List ℕ) (limit : ℕ) → Proper limit (answer t f memory message limit .reply)
 unfolding answer

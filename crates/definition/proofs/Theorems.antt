@@ -1,31 +1,31 @@
--- The theorems that specs/Promises.antt states.
+-- The theorems that specs/Promises.antt states, but for `Target-lies-in-its-tag` (Inside) and `Memory-keeps-its-length` (Stored).
 -- Assumes nothing.
 use mathlib.Core.Path.{_≡_, refl, sym, ap, _∙_, subst}
 use mathlib.Core.Logic.{_≢_}
-use mathlib.Core.Bool.{Bool, true, false, not}
+use mathlib.Core.Bool.{Bool, true, false}
 use mathlib.Core.List.{List, [], _∷_}
-use Prim.Native.Nat.{ℕ, zero, suc, _≤_, _<_}
+use Prim.Native.Nat.{ℕ, zero, suc, _-_, _≤_, _<_}
 use native.Mathlib.Omega.{arith}
 use lib.Dec.{ltb, leb, eqb}
-use lib.ListN.{length, getD}
-use borrow.Author.Tests.{ltb-true, ltb-false, leb-true, leb-false, eqb-true, eqb-false}
-use Rattle.laws.specs.Pick.{pick, both}
-use Rattle.laws.specs.Tests.{some-of}
+use lib.ListN.{getD}
+use borrow.Author.Tests.{ltb-false, leb-true, eqb-true}
+use Rattle.laws.specs.Tests.{every, some-of}
 use Rattle.laws.proofs.Chain.{by-test, pick-all}
-use Rattle.definition.specs.Reply.{Answer, fail, reply, room}
+use Rattle.laws.proofs.Tests.{every-at}
+use Rattle.definition.specs.Reply.{Answer, reply}
 use Rattle.definition.specs.Segment.{Segment}
-use Rattle.definition.specs.Request.{Request, request, requestOf, Object, object, noObject, objectOf, isTagPath}
+use Rattle.definition.specs.Request.{request, requestOf}
 use Rattle.definition.specs.Tables.{Tables, Flags}
-use Rattle.definition.specs.Types.{atomicSize, isAtomic, isStructure, typeHeader}
+use Rattle.definition.specs.Types.{atomicSize, isStructure, typeHeader}
 use Rattle.definition.specs.Masked.{masked, maskedStored}
 use Rattle.definition.specs.Resolve.{Resolved, found, turned}
 use Rattle.definition.specs.Access.{tagTarget}
 use Rattle.definition.specs.Write.{Stored, store, noStore, storeAnswer, writeStored}
-use Rattle.definition.specs.Answer.{isWrite, isRead, isTagService, onTarget, tagService, byService, byObject, plain, anyRequest, answer}
-use Rattle.definition.specs.Entry.{Entered, refused, replied, refuse, lay, entry}
+use Rattle.definition.specs.Answer.{isWrite, isRead, onTarget, tagService, answer}
+use Rattle.definition.specs.Entry.{Entered, replied, refuse, entry}
 use Rattle.definition.specs.Promises.{Refusal-changes-nothing, Reply-fits, Reply-has-a-status, Refused-write-changes-nothing, Masked-at-any-width, Element-sizes, Header-sizes}
 use Rattle.definition.proofs.Enters.{Enters, stopped, taken, enters}
-use Rattle.definition.proofs.Replies.{Proper, proper-answer}
+use Rattle.definition.proofs.Replies.{Proper, plain-all, proper-answer}
 
 -- a refusal is no reply
 no-reply : {A : Type 0} (e : Entered) (number : ℕ) (buffer memory r : List ℕ) → e ≡ refuse number buffer memory → e .outcome ≡ replied r → A
@@ -77,21 +77,6 @@ target-honest t memory service (found g) body limit =
     (pick-all (Honest memory) (eqb service 0x4E) (store-honest service (maskedStored memory g body) memory)
     (store-honest service (writeStored t memory service g body) memory))
 
-service-honest : (t : Tables) (f : Flags) (memory : List ℕ) (service : ℕ) (path : List Segment) (body : List ℕ) (limit : ℕ)
-    → Honest memory (byService t f memory service path body limit)
-unfolding byService tagService
-service-honest t f memory service path body limit =
-    pick-all (Honest memory) (eqb service 0x55) (λ n. refl)
-    (pick-all (Honest memory) (both (isTagService service) (isTagPath path)) (target-honest t memory service (tagTarget t f (isWrite service) path) body limit) (λ n. refl))
-
-object-honest : (t : Tables) (f : Flags) (memory : List ℕ) (service : ℕ) (o : Object) (path : List Segment) (body : List ℕ) (limit : ℕ)
-    → Honest memory (byObject t f memory service o path body limit)
-object-honest t f memory service noObject path body limit = service-honest t f memory service path body limit
-object-honest t f memory service (object c i) path body limit =
-    pick-all (Honest memory) (both (eqb c 0x6B) (both (eqb service 0x03) (not (f .micro800)))) (λ n. refl)
-    (pick-all (Honest memory) (both (eqb c 0x6C) (eqb service 0x03)) (λ n. refl)
-    (pick-all (Honest memory) (both (eqb c 0x6C) (eqb service 0x4C)) (λ n. refl) (service-honest t f memory service path body limit)))
-
 -- a write is no envelope
 write-alone : (service : ℕ) → isWrite service ≡ true → eqb service 0x0A ≡ false
 write-alone service w =
@@ -100,9 +85,11 @@ write-alone service w =
 
 alone-honest : (t : Tables) (f : Flags) (memory message : List ℕ) (limit service : ℕ) (path : List Segment) (body : List ℕ)
     → requestOf message ≡ request service path body → isWrite service ≡ true → Honest memory (answer t f memory message limit)
-unfolding answer plain
+unfolding answer tagService
 alone-honest t f memory message limit service path body q w =
-    rw (q, write-alone service w) (object-honest t f memory service (objectOf path) path body limit)
+    rw (q, write-alone service w)
+    (plain-all (Honest memory) t f memory service path body limit (λ r p n. refl)
+    (target-honest t memory service (tagTarget t f (isWrite service) path) body limit))
 
 pub refused-write-changes-nothing : Refused-write-changes-nothing
 refused-write-changes-nothing t f memory message limit buffer r service path body q w e n = go (enters t f memory message limit buffer)
@@ -124,3 +111,25 @@ masked-at-any-width (b ∷ bs) (o ∷ os) [] p q = absurd (omega arith)
 masked-at-any-width (b ∷ bs) (o ∷ os) (n ∷ ns) p q =
     let rest = masked-at-any-width bs os ns (omega arith) (omega arith) in
     (ap suc (rest .0), λ i. elim i [ zero ↦ λ h. refl | suc j ↦ λ h. rest .1 j (omega arith) ])
+
+-- the sizes stand in two short lists, each tried whole
+pub element-sizes : Element-sizes
+unfolding atomicSize some-of every
+element-sizes code a =
+    by-test (ltb code 0xC1) (λ p. absurd (none-atomic (rw p at a)))
+    (λ p. by-test (leb code 0xCB)
+    (λ q. rw (p, q) (every-at Width 0 (1 ∷ 1 ∷ 2 ∷ 4 ∷ 8 ∷ 1 ∷ 2 ∷ 4 ∷ 8 ∷ 4 ∷ 8 ∷ []) (code - 0xC1) refl (omega (arith, ltb-false code 0xC1 p, leb-true code 0xCB q))))
+    (λ q. by-test (ltb code 0xD1) (λ r. absurd (none-atomic (rw (p, q, r) at a)))
+    (λ r. by-test (leb code 0xD4)
+    (λ u. rw (p, q, r, u) (every-at Width 0 (1 ∷ 2 ∷ 4 ∷ 8 ∷ []) (code - 0xD1) refl (omega (arith, ltb-false code 0xD1 r, leb-true code 0xD4 u))))
+    (λ u. absurd (none-atomic (rw (p, q, r, u) at a))))))
+  where
+    Width : ℕ → Bool
+    Width n = some-of (eqb n) (1 ∷ 2 ∷ 4 ∷ 8 ∷ [])
+
+    none-atomic : false ≡ true → ⊥
+    none-atomic e = let z : _≡_ {A = ℕ} 0 1 = cc e in omega arith
+
+pub header-sizes : Header-sizes
+unfolding typeHeader some-of
+header-sizes t type = by-test (isStructure type) (λ e. rw e) (λ e. rw e)

@@ -2,7 +2,6 @@
 -- 1756-PM020 names external access; document 01 alone defines the rule for AOI types and the order.
 use mathlib.Core.Bool.{Bool}
 use mathlib.Core.List.{List}
-use Prim.Native.Nat.{ℕ}
 use lib.Dec.{eqb}
 use Rattle.laws.specs.Pick.{pick, both, either}
 use Rattle.definition.specs.Reply.{denied}

@@ -1,10 +1,10 @@
 -- Document 01, "Dispatch and what turns a request away", items 5 to 20 in their order.
 -- CIP Volume 1 and 1756-PM020 define the services; which is tried first, and item 20, are document 01's alone.
-use mathlib.Core.Bool.{Bool, true, false, not}
+use mathlib.Core.Bool.{Bool, false, not}
 use mathlib.Core.List.{List}
 use Prim.Native.Nat.{ℕ}
 use mathlib.Core.Option.{Option, none, some}
-use lib.Dec.{ltb, leb, eqb}
+use lib.Dec.{leb, eqb}
 use lib.ListN.{length, getD}
 use Rattle.laws.specs.Pick.{pick, both, either}
 use Rattle.definition.specs.Reply.{Answer, answered, fail, pathError, pathUnknown, notSupported, tooLarge}
@@ -12,7 +12,7 @@ use Rattle.definition.specs.Segment.{Segment}
 use Rattle.definition.specs.Request.{Request, malformed, request, requestOf, Object, object, noObject, objectOf, isTagPath}
 use Rattle.definition.specs.Tables.{Tables, Flags, structureAt}
 use Rattle.definition.specs.Lookup.{structureWithTemplate}
-use Rattle.definition.specs.Resolve.{Target, Resolved, found, turned}
+use Rattle.definition.specs.Resolve.{Resolved, found, turned}
 use Rattle.definition.specs.Access.{tagTarget}
 use Rattle.definition.specs.Read.{readReply}
 use Rattle.definition.specs.Write.{storeAnswer, writeStored}

@@ -1,11 +1,11 @@
 -- Document 01, "Envelope" and items 6 to 8: several services in one message (0x0A on class 0x02 instance 1).
 -- CIP Volume 1, Appendix A (Multiple_Service_Packet), defines the layout and status 0x1E; document 01 alone the parts' limits and 0x11.
 -- `answer` is the dispatcher that a part goes back to. A part that starts with 0x0A is refused here, so a dispatcher without envelopes is enough.
-use mathlib.Core.Bool.{Bool, true, false, not}
+use mathlib.Core.Bool.{Bool}
 use mathlib.Core.List.{List, [], _∷_, _++_}
 use mathlib.Core.Option.{Option, none, some}
 use Prim.Native.Nat.{ℕ, _+_, _-_, _*_}
-use lib.Dec.{ltb, leb, eqb}
+use lib.Dec.{leb, eqb}
 use lib.ListN.{length, getD}
 use Rattle.laws.specs.Pick.{pick, both}
 use Rattle.laws.specs.Tests.{every}

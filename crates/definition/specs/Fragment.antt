@@ -1,6 +1,6 @@
 -- Document 01, "Fragment": how much of what is due a tag read sends at a limit, and with what status; and point 3's reply count.
 -- 1756-PM020 (Read Tag Fragmented) defines status 0x06 with a part of the data; document 01 alone defines s and the rounding.
-use mathlib.Core.List.{List, [], _∷_, _++_}
+use mathlib.Core.List.{List, _++_}
 use Prim.Native.Nat.{ℕ, _+_, _-_, _*_, _/_}
 use lib.Dec.{ltb, leb}
 use lib.ListN.{length, take}

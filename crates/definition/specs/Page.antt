@@ -1,7 +1,7 @@
 -- Document 01, "Symbol page": ascending IDs from the start ID; stops with 0x06 before an entry that does not fit; 0x11 if the first does not.
 -- 1756-PM020 (Get Instance Attribute List of the Symbol object) defines entries that ascend from a start and status 0x06; document 01 alone
 -- defines 0x11, and a page with nothing due (status 0 at any limit).
-use mathlib.Core.Bool.{Bool, true, false}
+use mathlib.Core.Bool.{Bool, false}
 use mathlib.Core.List.{List, [], _∷_, _++_}
 use Prim.Native.Nat.{ℕ, suc, _-_}
 use lib.Dec.{ltb, leb, eqb}

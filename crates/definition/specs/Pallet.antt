@@ -1,5 +1,5 @@
 -- Document 01, "Pallet bench": its tables, flags and tag memory. Controller scope, access 0, multi-service on. And what a line of it says.
--- Document 01 alone defines them; IDs, the structure's name, and the bytes of `Rows` are this project's choice.
+-- Document 01 alone defines them; IDs, the structure's name and handle, its template (8 bytes) and the bytes of `Rows` are this project's choice.
 use mathlib.Core.Bool.{true, false}
 use mathlib.Core.List.{List, [], _∷_, _++_}
 use Prim.Native.Nat.{ℕ, zero, suc}
@@ -26,25 +26,25 @@ palletTags =
     ∷ (0 ∷ 9 ∷ 4 ∷ 0xFFFFFFFF ∷ 0x100 ∷ 0 ∷ 0 ∷ 0 ∷ 1 ∷ 0 ∷ 0 ∷ 44 ∷ [])
     ∷ []
 
+-- n numbers from i on
+unfoldable pub upFrom : (i n : ℕ) → List ℕ
+upFrom i zero = []
+upFrom i (suc n) = i ∷ upFrom (suc i) n
+
 unfoldable pub pallet : Tables
 pallet = record {
-  structures = (0 ∷ 8 ∷ 0x100 ∷ 0x1234 ∷ 4 ∷ 0 ∷ 1 ∷ 0 ∷ 0 ∷ 0 ∷ []) ∷ [];
+  structures = (0 ∷ 8 ∷ 0x100 ∷ 0x1234 ∷ 4 ∷ 0 ∷ 1 ∷ 0 ∷ 0 ∷ 8 ∷ []) ∷ [];
   members = (8 ∷ 3 ∷ 0xC1 ∷ 0 ∷ 0 ∷ 2 ∷ 0 ∷ 0 ∷ 0 ∷ []) ∷ [];
   programs = [];
   tags = palletTags;
   others = [];
   names = palletNames;
   tagNames = palletTagNames;
-  templates = [];
+  templates = upFrom 1 8;
 }
 
 unfoldable pub palletFlags : Flags
 palletFlags = record { multiService = true; instanceIds = true; aoiLocalsRefused = false; micro800 = false }
-
--- n numbers from i on
-unfoldable pub upFrom : (i n : ℕ) → List ℕ
-upFrom i zero = []
-upFrom i (suc n) = i ∷ upFrom (suc i) n
 
 -- the memory with these bytes of `Count` and of `Cell`; `Rows` holds 1 to 40, a byte each
 unfoldable pub palletMemory : (count cell : List ℕ) → List ℕ

@@ -1,4 +1,4 @@
--- Theorems about the definition, each a named statement; proofs/Theorems.antt proves them. Document 01, points 1 and 2, and its "Envelope and limit".
+-- Theorems about the definition, each a named statement; proofs/Theorems, Inside and Stored prove them. Document 01, points 1 and 2, and its "Envelope and limit".
 use mathlib.Core.Path.{_≡_}
 use mathlib.Core.Logic.{_≢_}
 use mathlib.Core.Bool.{Bool, true}
@@ -19,7 +19,7 @@ use Rattle.definition.specs.Resolve.{Target, found}
 use Rattle.definition.specs.Access.{tagTarget}
 use Rattle.definition.specs.Masked.{masked}
 use Rattle.definition.specs.Answer.{isWrite}
-use Rattle.definition.specs.Entry.{Entered, refused, replied, entry}
+use Rattle.definition.specs.Entry.{refused, replied, entry}
 
 -- ---- for all tables, flags, memories, messages, limits and buffers
 

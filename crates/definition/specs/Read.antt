@@ -2,7 +2,7 @@
 -- 1756-PM020 (Read Tag, Read Tag Fragmented) defines the request's fields and the reply's header and data; document 01 alone the refusals' order.
 use mathlib.Core.Bool.{Bool}
 use mathlib.Core.List.{List, [], _∷_}
-use Prim.Native.Nat.{ℕ, _+_, _*_, _/_, _%_, _^_}
+use Prim.Native.Nat.{ℕ, _*_, _/_, _%_, _^_}
 use lib.Dec.{ltb, leb, eqb}
 use lib.ListN.{length, getD, drop}
 use Rattle.laws.specs.Pick.{pick}

@@ -1,8 +1,7 @@
 -- Document 01, "Segment": the 256 first bytes, the segment at a position of a path, and a path's segments.
 -- CIP Volume 1, Appendix C, sections on segments (port, logical, ANSI extended symbol) and padded EPATHs, defines the encodings; which of
 -- them are taken, and that a pad may hold anything, is document 01's.
-use mathlib.Core.Bool.{Bool}
-use mathlib.Core.List.{List, [], _∷_, map}
+use mathlib.Core.List.{List, map}
 use mathlib.Core.Option.{Option, none, some}
 use Prim.Native.Nat.{ℕ, _+_, _%_}
 use lib.Bits.{bitAnd}

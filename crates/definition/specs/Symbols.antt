@@ -1,6 +1,6 @@
 -- Document 01, "Symbol page": the symbols of a scope, ascending by ID, with every attribute; and item 13, the request (0x55).
 -- 1756-PM020 (Symbol object) defines attributes 1, 2, 7, 8 and 10; document 01 alone 3, 5 and 6, the rest of item 13 and the order of its refusals.
-use mathlib.Core.Bool.{Bool, true, false}
+use mathlib.Core.Bool.{Bool}
 use mathlib.Core.List.{List, [], _∷_, _++_, map}
 use mathlib.Core.Option.{Option, none, some}
 use Prim.Native.Nat.{ℕ, suc, _+_, _*_, _%_}

@@ -4,7 +4,7 @@ use mathlib.Core.List.{List}
 use Prim.Native.Nat.{ℕ, _+_, _-_, min}
 use lib.Dec.{ltb, leb, eqb}
 use lib.ListN.{length}
-use Rattle.laws.specs.Pick.{pick, both}
+use Rattle.laws.specs.Pick.{pick}
 use Rattle.definition.specs.Bytes.{u16At, u32At, part}
 use Rattle.definition.specs.Reply.{reply, fail, success, partial, tooLarge, tooShort, beyondEnd}
 use Rattle.definition.specs.Tables.{Tables, Row, templateStart, templateLength}

@@ -4,7 +4,7 @@ use mathlib.Core.Bool.{Bool, not, true}
 use mathlib.Core.List.{List, [], _∷_}
 use Prim.Native.Nat.{ℕ, suc, _+_, _*_, _-_, max}
 use lib.Dec.{ltb, leb, eqb}
-use lib.ListN.{length, getD}
+use lib.ListN.{length}
 use Rattle.laws.specs.Pick.{pick, both, either}
 use Rattle.laws.specs.Tests.{every, pairs}
 use Rattle.definition.specs.Names.{sameName}

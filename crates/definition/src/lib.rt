@@ -1,1 +1,1 @@
-// Document 01 as a definition in antt: all of it stands in specs/, no code and no proof.
+// Document 01 as a definition in antt: specs/ is the definition, proofs/ has theorems about it. No code.

@@ -1,6 +1,6 @@
 -- A loop down an index with the invariant `s ≡ fold f z i (drop i xs)`, and a loop up with `run f s i (drop i xs) ≡ run f z 0 xs`.
 -- Assumes nothing.
-use mathlib.Core.Path.{_≡_, _∙_, refl, sym, ap}
+use mathlib.Core.Path.{_≡_, _∙_, refl, ap}
 use mathlib.Core.List.{List, [], _∷_}
 use Prim.Native.Nat.{ℕ, suc, _+_, _-_, _<_, _≤_}
 use native.Mathlib.Numerals.{add-one}

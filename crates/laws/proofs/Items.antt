@@ -1,15 +1,12 @@
 -- A loop over the items of a text: the invariant is `over g done bad s (items f next e e at) ≡ over g done bad z (items f next e e 0)`.
 -- Assumes nothing.
 use mathlib.Core.Path.{_≡_, refl, sym, ap, _∙_}
-use mathlib.Core.Bool.{Bool, true, false}
-use mathlib.Core.List.{List, [], _∷_}
+use mathlib.Core.List.{List, []}
 use mathlib.Core.Option.{Option, none, some}
 use Prim.Native.Nat.{ℕ, zero, suc, _+_, _<_, _≤_}
-use native.Mathlib.Nat.{not-suc-le-zero}
 use native.Mathlib.Omega.{arith}
-use lib.Dec.{ltb, eqb}
-use borrow.Author.Tests.{lt-ltb, le-ltb, ltb-true, ltb-false, eq-eqb, ne-eqb, eqb-false}
-use Rattle.laws.specs.Pick.{pick}
+use lib.Dec.{eqb}
+use borrow.Author.Tests.{lt-ltb, le-ltb, ne-eqb, eqb-false}
 use Rattle.laws.specs.Items.{before, items, each, over}
 use Rattle.laws.proofs.Chain.{by-test}
 

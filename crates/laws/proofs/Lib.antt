@@ -6,3 +6,4 @@ pub mod Table
 pub mod Items
 pub mod Put
 pub mod Sorted
+pub mod Tests

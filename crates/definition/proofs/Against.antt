@@ -3,7 +3,7 @@
 use mathlib.Core.Path.{_≡_, refl}
 use mathlib.Core.List.{List, [], _∷_, _++_, map}
 use Prim.Native.Nat.{ℕ}
-use Rattle.definition.specs.Pallet.{palletMemory, upFrom, Line, count, rows, cellRun, line, rowsFrom, computed, expected}
+use Rattle.definition.specs.Pallet.{palletMemory, upFrom, Line, count, cellRun, line, rowsFrom, computed, expected}
 
 -- 0x4D of `Count`, now 14
 abbrev writeCount : List ℕ
@@ -16,10 +16,16 @@ countIs14 = palletMemory (0x0E ∷ 0x00 ∷ 0x00 ∷ 0x00 ∷ []) (0x04 ∷ 0x00
 abbrev several : (offsets parts : List ℕ) → List ℕ
 several offsets parts = 0x0A ∷ 0x02 ∷ 0x20 ∷ 0x02 ∷ 0x24 ∷ 0x01 ∷ offsets ++ parts
 
+-- class 0x6C, instance 0x100
+abbrev cellType : List ℕ
+cellType = 0x20 ∷ 0x6C ∷ 0x25 ∷ 0x00 ∷ 0x00 ∷ 0x01 ∷ []
+
 unfoldable pub lines : List Line
 lines =
     -- past the first fragment there is more
     line (rowsFrom 16) 22 (0xD2 ∷ 0x00 ∷ 0x06 ∷ 0x00 ∷ 0xC4 ∷ 0x00 ∷ upFrom 17 16)
+    -- the last chunk is not rounded
+    ∷ line (rowsFrom 35) 100 (0xD2 ∷ 0x00 ∷ 0x00 ∷ 0x00 ∷ 0xC4 ∷ 0x00 ∷ upFrom 36 5)
     -- an accepted write is stored
     ∷ record { request = writeCount; limit = 100; reply = 0xCD ∷ 0x00 ∷ 0x00 ∷ 0x00 ∷ []; memory = countIs14 }
     -- a bit write's offset, here 5, is ignored: `Cell.Run` is cleared
@@ -35,8 +41,16 @@ lines =
     ∷ line (several (0x02 ∷ 0x00 ∷ 0x06 ∷ 0x00 ∷ 0x14 ∷ 0x00 ∷ []) (rowsFrom 0 ++ 0x4C ∷ [])) 30
     (0x8A ∷ 0x00 ∷ 0x1E ∷ 0x00 ∷ 0x02 ∷ 0x00 ∷ 0x06 ∷ 0x00 ∷ 0x14 ∷ 0x00
     ∷ 0xD2 ∷ 0x00 ∷ 0x06 ∷ 0x00 ∷ 0xC4 ∷ 0x00 ∷ upFrom 1 8 ++ 0xCC ∷ 0x00 ∷ 0x04 ∷ 0x00 ∷ [])
+    -- the template of `CellType`, 8 bytes wanted: a fragment fits the limit
+    ∷ line (0x4C ∷ 0x03 ∷ cellType ++ 0x00 ∷ 0x00 ∷ 0x00 ∷ 0x00 ∷ 0x08 ∷ 0x00 ∷ []) 7 (0xCC ∷ 0x00 ∷ 0x06 ∷ 0x00 ∷ 0x01 ∷ 0x02 ∷ 0x03 ∷ [])
+    -- its handle, in a reply of 12 bytes: item 20
+    ∷ line (0x03 ∷ 0x03 ∷ cellType ++ 0x01 ∷ 0x00 ∷ 0x01 ∷ 0x00 ∷ []) 12
+    (0x83 ∷ 0x00 ∷ 0x00 ∷ 0x00 ∷ 0x01 ∷ 0x00 ∷ 0x01 ∷ 0x00 ∷ 0x00 ∷ 0x00 ∷ 0x34 ∷ 0x12 ∷ [])
+    ∷ line (0x03 ∷ 0x03 ∷ cellType ++ 0x01 ∷ 0x00 ∷ 0x01 ∷ 0x00 ∷ []) 11 (0x83 ∷ 0x00 ∷ 0x11 ∷ 0x00 ∷ [])
+    -- two symbols, IDs alone: the second does not fit
+    ∷ line (0x55 ∷ 0x02 ∷ 0x20 ∷ 0x6B ∷ 0x24 ∷ 0x00 ∷ 0x00 ∷ 0x00 ∷ []) 11 (0xD5 ∷ 0x00 ∷ 0x06 ∷ 0x00 ∷ 0x01 ∷ 0x00 ∷ 0x00 ∷ 0x00 ∷ [])
     ∷ []
 
-pub shut-out : map computed lines ≡ map expected lines
+pub against-worthless-versions : map computed lines ≡ map expected lines
 unfolding lines computed expected
-shut-out = refl
+against-worthless-versions = refl
