@@ -101,9 +101,12 @@ abbrev pub onlySegments : Option (List Step) → Option (List Segment)
 onlySegments none = none
 onlySegments (some steps) = some (map segmentOf steps)
 
--- none where one is invalid or cut short; a path has no more segments than bytes
-unfoldable pub segments : List ℕ → Option (List Segment)
-segments path = onlySegments (items (segmentAt path) nextOf (length path) (length path) 0)
+-- from a position on; none where one is invalid or cut short; a path has no more segments than bytes
+unfoldable pub segmentsFrom : (path : List ℕ) (at : ℕ) → Option (List Segment)
+segmentsFrom path at = onlySegments (items (segmentAt path) nextOf (length path) (length path) at)
+
+abbrev pub segments : List ℕ → Option (List Segment)
+segments path = segmentsFrom path 0
 
 -- ---- what a segment is
 

@@ -1,0 +1,13 @@
+use mathlib.Core.Path.{refl}
+use Rattle.laws.proofs.Put.{put-then}
+use native.Mathlib.Omega.{arith}
+use borrow.Author.Needs.{needs}
+use Rattle.cip.proofs.put_start.Statement.{statement}
+use Rattle.cip.proofs.put_start.Tie as tie
+
+returns : tie.Need-returns
+returns c = put-then _ _ _ _ _ _ _ (put-then _ _ _ _ _ _ _ (c .before .before .before .before .before .before .before .before .before .before .put-u8 .ensures) (c .before .before .before .before .before .before .put-u82 .ensures) refl (omega arith)) (c .before .before .put-u83 .ensures) refl (omega arith)
+
+pub put-start-spec : {M : Type 1} → statement M
+put-start-spec =
+    tie.close (tie.spec (λ c κs. search needs) (λ c κs. search needs) (λ c κs. search needs) (λ c. search needs) returns)

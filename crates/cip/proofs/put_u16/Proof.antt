@@ -1,0 +1,21 @@
+use mathlib.Core.Path.{refl}
+use Rattle.laws.proofs.Put.{put-then}
+use native.Mathlib.Omega.{arith}
+use borrow.Author.Needs.{needs}
+use Rattle.cip.proofs.put_u16.Statement.{statement}
+use Rattle.cip.proofs.put_u16.Tie as tie
+
+returns : tie.Need-returns
+returns c = put-then _ _ _ _ _ _ _ (c .before .before .before .before .before .before .put-u8 .ensures) (c .before .before .put-u82 .ensures) refl (omega arith)
+
+pub put-u16-spec : {M : Type 1} → statement M
+put-u16-spec =
+    tie.close
+    (tie.spec
+    (λ c. search needs)
+    (λ c κs. search needs)
+    (λ c. search needs)
+    (λ c. search needs)
+    (λ c κs. search needs)
+    (λ c. search needs)
+    returns)

@@ -1,0 +1,29 @@
+use mathlib.Core.Path.{refl}
+use Rattle.laws.proofs.Put.{put-then}
+use native.Mathlib.Omega.{arith}
+use borrow.Author.Needs.{needs}
+use Rattle.cip.proofs.put_u32.Statement.{statement}
+use Rattle.cip.proofs.put_u32.Tie as tie
+
+returns : tie.Need-returns
+returns c = let two = put-then _ _ _ _ _ _ _ (c .before .before .before .before .before .before .before .before .before .before .before .before .before .before .put-u8 .ensures) (c .before .before .before .before .before .before .before .before .before .before .put-u82 .ensures) refl (omega arith) in
+    let three = put-then _ _ _ _ _ _ _ two (c .before .before .before .before .before .before .put-u83 .ensures) refl (omega arith) in
+    put-then _ _ _ _ _ _ _ three (c .before .before .put-u84 .ensures) refl (omega arith)
+
+pub put-u32-spec : {M : Type 1} → statement M
+put-u32-spec =
+    tie.close
+    (tie.spec
+    (λ c. search needs)
+    (λ c κs. search needs)
+    (λ c. search needs)
+    (λ c. search needs)
+    (λ c κs. search needs)
+    (λ c. search needs)
+    (λ c. search needs)
+    (λ c κs. search needs)
+    (λ c. search needs)
+    (λ c. search needs)
+    (λ c κs. search needs)
+    (λ c. search needs)
+    returns)
