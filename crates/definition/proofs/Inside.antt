@@ -18,8 +18,8 @@ use Rattle.definition.specs.Names.{isProgramName, afterPrefix}
 use Rattle.definition.specs.Reply.{Status}
 use Rattle.definition.specs.Request.{objectOf, symbolInstance}
 use Rattle.definition.specs.Tables.{Tables, Flags, takesInstances, Row, structureSize, membersOf, memberType, memberLength, memberOffset, memberBit, noBit, isLocal, tagOffset}
-use Rattle.definition.specs.Types.{atomicSize, isStructure, structureOf, elementSize}
-use Rattle.definition.specs.Lookup.{first, marked, programNamed, tagNamed, tagWithId, memberNamed, tagAt}
+use Rattle.definition.specs.Types.{atomicSize, isStructure, structureOf, elementSize, sizeIn}
+use Rattle.definition.specs.Lookup.{first, marked, programNamed, tagAt, memberIn, idIn, tagIn}
 use Rattle.definition.specs.Valid.{isType, product, tagEnd, valid}
 use Rattle.definition.specs.Resolve.{Target, Resolved, found, turned, wholeTag, Move, indexes, member, stray, moves, allBelow, rowMajor, elementsFrom, index, memberTarget, visibleMember, memberFound, memberOf, moveTo, andThen, walk, fromTag, byInstance, byName, inScope, inProgram, scopedBy, resolve}
 use Rattle.definition.specs.Access.{isDenied, permitted, tagTarget}
@@ -99,7 +99,7 @@ module _ (t : Tables) (f : Flags) (memory : ℕ) (ok : valid t memory ≡ true) 
 
   row-stands : (g : Target) (r : Row) → Stands t g → isType (length (t .structures)) (memberType r) ≡ true
       → memberOffset r + elementSize t (memberType r) * max 1 (memberLength r) ≤ g .count * elementSize t (g .type) → Stands t (memberTarget g r)
-  unfolding memberTarget isType elementSize atomicSize
+  unfolding memberTarget isType sizeIn atomicSize
   row-stands g r s type inside =
       let n = max 1 (memberLength r) in
       let one : 0 < n = omega arith in
@@ -123,7 +123,7 @@ module _ (t : Tables) (f : Flags) (memory : ℕ) (ok : valid t memory ≡ true) 
 
   member-stands : (g : Target) (j : ℕ) → Stands t g → isStructure (g .type) ≡ true → j < length (membersOf t (structureOf t (g .type)))
       → Stands t (memberTarget g (getD (membersOf t (structureOf t (g .type))) j []))
-  unfolding elementSize
+  unfolding sizeIn
   member-stands g j s e h =
       let i = structure-in (length (t .structures)) (g .type) e (s .type) in
       row-stands g _ s (member-type t memory ok (g .type - 0x100) j i h)
@@ -134,7 +134,7 @@ module _ (t : Tables) (f : Flags) (memory : ℕ) (ok : valid t memory ≡ true) 
   visible-stands g r s = pick-all Stood (both (marked (isLocal r)) (f .aoiLocalsRefused)) tt s
 
   member-of-stands : (name : List ℕ) (g : Target) → Stands t g → Stood (memberOf t f name g)
-  unfolding memberOf memberNamed
+  unfolding memberOf memberIn
   member-of-stands name g s =
       pick-by Stood (both (isStructure (g .type)) (both (isEmpty (g .lengths)) (eqb (g .bit) noBit)))
       (λ e. scan-all _ (λ o. Stood (memberFound t f g o)) some none 0 (membersOf t (structureOf t (g .type))) tt
@@ -159,12 +159,12 @@ module _ (t : Tables) (f : Flags) (memory : ℕ) (ok : valid t memory ≡ true) 
       (λ i h. walk-stands (moves rest) (wholeTag t i) (tag-stands i (omega arith)))
 
   instance-stands : (scope : ℕ) (o : Option ℕ) (rest : List Segment) → Stood (byInstance t f scope o rest)
-  unfolding tagWithId
+  unfolding idIn
   instance-stands scope none rest = tt
   instance-stands scope (some id) rest = pick-all Stood (takesInstances f) (first-stands _ _ rest) tt
 
   named-stands : (scope : ℕ) (o : Option (List ℕ)) (s : Segment) (rest : List Segment) → Stood (byName t f scope o s rest)
-  unfolding tagNamed
+  unfolding tagIn
   named-stands scope none s rest = instance-stands scope (symbolInstance (objectOf (s ∷ rest))) (drop 1 rest)
   named-stands scope (some name) s rest = first-stands _ _ rest
 

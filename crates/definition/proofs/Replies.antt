@@ -69,9 +69,9 @@ status-known : (due s : ℕ) → isStatus (statusOf due s) ≡ true
 unfolding statusOf isStatus some-of
 status-known due s = pick-all (λ c. isStatus c ≡ true) (leb due s) refl refl
 
-pub header-short : (t : Tables) (type : ℕ) → length (typeHeader t type) ≤ 4
+pub header-short : (structures : List Row) (type : ℕ) → length (typeHeader structures type) ≤ 4
 unfolding typeHeader
-header-short t type = by-test (isStructure type) (λ e. rw e (omega arith)) (λ e. rw e (omega arith))
+header-short structures type = by-test (isStructure type) (λ e. rw e (omega arith)) (λ e. rw e (omega arith))
 
 proper-fragment : (limit service : ℕ) (header chunk : List ℕ) → length header ≤ 4 → Proper limit (fragmentReply service header chunk limit)
 unfolding fragmentReply
@@ -86,7 +86,7 @@ AskedWell (notGranted status) = Known status
 ask-well : (t : Tables) (g : Target) (elements : ℕ) → AskedWell (ask t g elements)
 unfolding ask selection isStatus some-of
 ask-well t g elements =
-    let h = header-short t (g .type) in
+    let h = header-short (t .structures) (g .type) in
     pick-all AskedWell (eqb (g .bit) 8)
     (pick-all AskedWell (eqb elements 0) refl (pick-all AskedWell (ltb (g .count) elements) refl h))
     (pick-all AskedWell (eqb elements 1) h refl)

@@ -132,4 +132,4 @@ element-sizes code a =
 
 pub header-sizes : Header-sizes
 unfolding typeHeader some-of
-header-sizes t type = by-test (isStructure type) (λ e. rw e) (λ e. rw e)
+header-sizes structures type = by-test (isStructure type) (λ e. rw e) (λ e. rw e)

@@ -52,7 +52,7 @@ programReference (some k) a = pick (eqb a 0x0D) (some (0x03 ∷ 0x20 ∷ 0x68 �
 -- the program that the other symbol of this index is named as
 abbrev pub namedProgram : Tables → Option ℕ → Option ℕ
 namedProgram t none = none
-namedProgram t (some i) = programOf t (otherName t (getD (t .others) i []))
+namedProgram t (some i) = programOf t (otherName (t .names) (getD (t .others) i []))
 
 -- 0x05 for an ID not in the controller scope
 unfoldable pub symbolAttributes : Tables → (service id : ℕ) (body : List ℕ) → List ℕ

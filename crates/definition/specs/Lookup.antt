@@ -10,7 +10,7 @@ use Rattle.laws.specs.Pick.{pick, both}
 use Rattle.laws.specs.Scan.{scan}
 use Rattle.laws.specs.Tests.{some-of}
 use Rattle.definition.specs.Names.{sameName, isProgramName, afterPrefix}
-use Rattle.definition.specs.Tables.{Tables, Row, templateId, membersOf, memberName, isHidden, isLocal, programName, tagScope, tagName, tagId, otherScope, otherId}
+use Rattle.definition.specs.Tables.{Tables, Row, templateId, membersOf, memberName, isHidden, isLocal, programName, tagScope, tagName, tagId}
 
 -- the index of the first row that passes
 abbrev pub first : (Row → Bool) → List Row → Option ℕ
@@ -20,32 +20,52 @@ first p rows = scan p some none 0 rows
 abbrev pub marked : ℕ → Bool
 marked mark = eqb mark 1
 
-unfoldable pub programNamed : Tables → (name : List ℕ) → Option ℕ
-programNamed t name = first (λ r. sameName (programName t r) name) (t .programs)
+unfoldable pub programIn : (programs : List Row) (names name : List ℕ) → Option ℕ
+programIn programs names name = first (λ r. sameName (programName names r) name) programs
+
+abbrev pub programNamed : Tables → (name : List ℕ) → Option ℕ
+programNamed t name = programIn (t .programs) (t .names) name
 
 -- the program that a name with the prefix means
 unfoldable pub programOf : Tables → (name : List ℕ) → Option ℕ
 programOf t name = pick (isProgramName name) (programNamed t (afterPrefix name)) none
 
-unfoldable pub tagNamed : Tables → (scope : ℕ) (name : List ℕ) → Option ℕ
-tagNamed t scope name = first (λ r. both (eqb (tagScope r) scope) (sameName (tagName t r) name)) (t .tags)
+unfoldable pub tagIn : (tags : List Row) (tagNames : List ℕ) (scope : ℕ) (name : List ℕ) → Option ℕ
+tagIn tags tagNames scope name = first (λ r. both (eqb (tagScope r) scope) (sameName (tagName tagNames r) name)) tags
 
-unfoldable pub tagWithId : Tables → (scope id : ℕ) → Option ℕ
-tagWithId t scope id = first (λ r. both (eqb (tagScope r) scope) (eqb (tagId r) id)) (t .tags)
+abbrev pub tagNamed : Tables → (scope : ℕ) (name : List ℕ) → Option ℕ
+tagNamed t scope name = tagIn (t .tags) (t .tagNames) scope name
 
-unfoldable pub otherWithId : Tables → (scope id : ℕ) → Option ℕ
-otherWithId t scope id = first (λ r. both (eqb (otherScope r) scope) (eqb (otherId r) id)) (t .others)
+-- scope and ID stand at the same words of a tag and of another symbol
+unfoldable pub idIn : (rows : List Row) (scope id : ℕ) → Option ℕ
+idIn rows scope id = first (λ r. both (eqb (tagScope r) scope) (eqb (tagId r) id)) rows
 
--- of a structure's members that are not hidden, the first of that name; its place among the structure's members
-unfoldable pub memberNamed : Tables → (structure : Row) (name : List ℕ) → Option ℕ
-memberNamed t s name = first (λ r. both (not (marked (isHidden r))) (sameName (memberName t r) name)) (membersOf t s)
+abbrev pub tagWithId : Tables → (scope id : ℕ) → Option ℕ
+tagWithId t scope id = idIn (t .tags) scope id
 
-unfoldable pub structureWithTemplate : Tables → (id : ℕ) → Option ℕ
-structureWithTemplate t id = first (λ r. eqb (templateId r) id) (t .structures)
+abbrev pub otherWithId : Tables → (scope id : ℕ) → Option ℕ
+otherWithId t scope id = idIn (t .others) scope id
+
+-- of some members that are not hidden, the first of that name
+unfoldable pub memberIn : (members : List Row) (names name : List ℕ) → Option ℕ
+memberIn members names name = first (λ r. both (not (marked (isHidden r))) (sameName (memberName names r) name)) members
+
+-- its place among the structure's members
+abbrev pub memberNamed : Tables → (structure : Row) (name : List ℕ) → Option ℕ
+memberNamed t s name = memberIn (membersOf t s) (t .names) name
+
+unfoldable pub templateIn : (structures : List Row) (id : ℕ) → Option ℕ
+templateIn structures id = first (λ r. eqb (templateId r) id) structures
+
+abbrev pub structureWithTemplate : Tables → (id : ℕ) → Option ℕ
+structureWithTemplate t id = templateIn (t .structures) id
 
 -- a hidden member counts
-unfoldable pub hasLocals : Tables → (structure : Row) → Bool
-hasLocals t s = some-of (λ r. marked (isLocal r)) (membersOf t s)
+unfoldable pub localIn : (members : List Row) → Bool
+localIn members = some-of (λ r. marked (isLocal r)) members
+
+abbrev pub hasLocals : Tables → (structure : Row) → Bool
+hasLocals t s = localIn (membersOf t s)
 
 abbrev pub tagAt : Tables → ℕ → Row
 tagAt t i = getD (t .tags) i []

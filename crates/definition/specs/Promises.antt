@@ -11,7 +11,7 @@ use Rattle.laws.specs.Tests.{some-of}
 use Rattle.definition.specs.Reply.{room}
 use Rattle.definition.specs.Segment.{Segment}
 use Rattle.definition.specs.Request.{request, requestOf}
-use Rattle.definition.specs.Tables.{Tables, Flags, tagOffset}
+use Rattle.definition.specs.Tables.{Tables, Flags, Row, tagOffset}
 use Rattle.definition.specs.Types.{atomicSize, isAtomic, elementSize, typeHeader}
 use Rattle.definition.specs.Lookup.{tagAt}
 use Rattle.definition.specs.Valid.{valid, tagEnd}
@@ -88,4 +88,4 @@ abbrev pub Element-sizes : Type 0
 Element-sizes = (code : ℕ) → isAtomic code ≡ true → some-of (eqb (atomicSize code)) (1 ∷ 2 ∷ 4 ∷ 8 ∷ []) ≡ true
 
 abbrev pub Header-sizes : Type 0
-Header-sizes = (t : Tables) (type : ℕ) → some-of (eqb (length (typeHeader t type))) (2 ∷ 4 ∷ []) ≡ true
+Header-sizes = (structures : List Row) (type : ℕ) → some-of (eqb (length (typeHeader structures type))) (2 ∷ 4 ∷ []) ≡ true

@@ -38,7 +38,7 @@ selection t g elements = record {
   start = g .start;
   size = elements * elementSize t (g .type);
   bit = g .bit;
-  header = typeHeader t (g .type);
+  header = typeHeader (t .structures) (g .type);
 }
 
 -- all of item 16's refusals that depend neither on the offset nor on missing data

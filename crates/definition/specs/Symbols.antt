@@ -39,8 +39,8 @@ baseTag = 0x4000000
 unfoldable pub tagSymbol : Tables → Row → Symbol
 tagSymbol t r = record {
   id = tagId r;
-  name = tagName t r;
-  type = symbolType t (tagType r) (length (lengthsOf r));
+  name = tagName (t .tagNames) r;
+  type = symbolType (t .structures) (tagType r) (length (lengthsOf r));
   control = pick (marked (isAlias r)) 0 baseTag;
   size = elementSize t (tagType r);
   lengths = listedLengths r;
@@ -51,7 +51,7 @@ tagSymbol t r = record {
 unfoldable pub otherSymbol : Tables → Row → Symbol
 otherSymbol t r = record {
   id = otherId r;
-  name = otherName t r;
+  name = otherName (t .names) r;
   type = otherType r;
   control = 0;
   size = 0;

@@ -27,8 +27,12 @@ field k r = getD r k 0
 
 -- ---- a structure
 
-abbrev pub structureName : Tables → Row → List ℕ
-structureName t r = part (t .names) (field 0 r) (field 1 r)
+-- the name whose start and length stand at words a and b
+abbrev pub nameAt : (a b : ℕ) (store : List ℕ) → Row → List ℕ
+nameAt a b store r = part store (field a r) (field b r)
+
+abbrev pub structureName : (names : List ℕ) → Row → List ℕ
+structureName names r = nameAt 0 1 names r
 
 abbrev pub templateId : Row → ℕ
 templateId r = field 2 r
@@ -57,13 +61,16 @@ templateLength r = field 9 r
 abbrev pub structureAt : Tables → ℕ → Row
 structureAt t i = getD (t .structures) i []
 
+abbrev pub membersIn : (members : List Row) → Row → List Row
+membersIn members r = take (memberCount r) (drop (firstMember r) members)
+
 abbrev pub membersOf : Tables → Row → List Row
-membersOf t r = take (memberCount r) (drop (firstMember r) (t .members))
+membersOf t r = membersIn (t .members) r
 
 -- ---- a member: an array length of 0 is no array, a bit of 8 is none
 
-abbrev pub memberName : Tables → Row → List ℕ
-memberName t r = part (t .names) (field 0 r) (field 1 r)
+abbrev pub memberName : (names : List ℕ) → Row → List ℕ
+memberName names r = nameAt 0 1 names r
 
 abbrev pub memberType : Row → ℕ
 memberType r = field 2 r
@@ -91,16 +98,16 @@ memberAccess r = field 8 r
 
 -- ---- a program: its name without `Program:`
 
-abbrev pub programName : Tables → Row → List ℕ
-programName t r = part (t .names) (field 0 r) (field 1 r)
+abbrev pub programName : (names : List ℕ) → Row → List ℕ
+programName names r = nameAt 0 1 names r
 
 -- ---- a tag: scope 0 is the controller, k + 1 program k; three lengths, nonzero first
 
 abbrev pub tagScope : Row → ℕ
 tagScope r = field 0 r
 
-abbrev pub tagName : Tables → Row → List ℕ
-tagName t r = part (t .tagNames) (field 1 r) (field 2 r)
+abbrev pub tagName : (tagNames : List ℕ) → Row → List ℕ
+tagName tagNames r = nameAt 1 2 tagNames r
 
 abbrev pub tagId : Row → ℕ
 tagId r = field 3 r
@@ -136,8 +143,8 @@ tagOffset r = field 11 r
 abbrev pub otherScope : Row → ℕ
 otherScope r = field 0 r
 
-abbrev pub otherName : Tables → Row → List ℕ
-otherName t r = part (t .names) (field 1 r) (field 2 r)
+abbrev pub otherName : (names : List ℕ) → Row → List ℕ
+otherName names r = nameAt 1 2 names r
 
 abbrev pub otherId : Row → ℕ
 otherId r = field 3 r

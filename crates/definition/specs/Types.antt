@@ -9,7 +9,7 @@ use lib.Dec.{ltb, leb, eqb}
 use lib.ListN.{getD}
 use Rattle.laws.specs.Pick.{pick, both, isEmpty}
 use Rattle.definition.specs.Bytes.{le16}
-use Rattle.definition.specs.Tables.{Tables, Row, handle, structureSize, structureAt, templateId, tagType, lengthsOf}
+use Rattle.definition.specs.Tables.{Tables, Row, handle, structureSize, templateId, tagType, lengthsOf}
 
 -- BOOL, SINT, INT, DINT, LINT, USINT, UINT, UDINT, ULINT, REAL, LREAL; BYTE, WORD, DWORD, LWORD; 0 for what is no atomic code
 unfoldable pub atomicSize : (code : ℕ) → ℕ
@@ -47,17 +47,24 @@ isDwordArray r = both (eqb (tagType r) DWORD) (not (isEmpty (lengthsOf r)))
 abbrev pub isStructure : (type : ℕ) → Bool
 isStructure type = leb 0x100 type
 
+abbrev pub structureIn : (structures : List Row) (type : ℕ) → Row
+structureIn structures type = getD structures (type - 0x100) []
+
 abbrev pub structureOf : Tables → (type : ℕ) → Row
-structureOf t type = structureAt t (type - 0x100)
+structureOf t type = structureIn (t .structures) type
 
 -- the bytes of one element
-unfoldable pub elementSize : Tables → (type : ℕ) → ℕ
-elementSize t type = pick (isStructure type) (structureSize (structureOf t type)) (atomicSize type)
+unfoldable pub sizeIn : (structures : List Row) (type : ℕ) → ℕ
+sizeIn structures type = pick (isStructure type) (structureSize (structureIn structures type)) (atomicSize type)
+
+abbrev pub elementSize : Tables → (type : ℕ) → ℕ
+elementSize t type = sizeIn (t .structures) type
 
 -- code and 0, or 0xA0 0x02 and the 16-bit structure handle
-unfoldable pub typeHeader : Tables → (type : ℕ) → List ℕ
-typeHeader t type = pick (isStructure type) (0xA0 ∷ 0x02 ∷ le16 (handle (structureOf t type))) (type ∷ 0 ∷ [])
+unfoldable pub typeHeader : (structures : List Row) (type : ℕ) → List ℕ
+typeHeader structures type = pick (isStructure type) (0xA0 ∷ 0x02 ∷ le16 (handle (structureIn structures type))) (type ∷ 0 ∷ [])
 
 -- the symbol type: the code, or 0x8000 OR template ID, OR number of lengths × 0x2000 (1756-PM020, Symbol object, attribute 2)
-unfoldable pub symbolType : Tables → (type lengths : ℕ) → ℕ
-symbolType t type lengths = bitOr (pick (isStructure type) (bitOr 0x8000 (templateId (structureOf t type))) type) (lengths * 0x2000)
+unfoldable pub symbolType : (structures : List Row) (type lengths : ℕ) → ℕ
+symbolType structures type lengths =
+    bitOr (pick (isStructure type) (bitOr 0x8000 (templateId (structureIn structures type))) type) (lengths * 0x2000)

@@ -8,14 +8,14 @@ use lib.ListN.{length}
 use Rattle.laws.specs.Pick.{pick, both, either}
 use Rattle.laws.specs.Tests.{every, pairs}
 use Rattle.definition.specs.Names.{sameName}
-use Rattle.definition.specs.Tables.{Tables, Row, field, structureName, templateId, handle, structureSize, firstMember, memberCount, isAoi, templateStart, templateLength, membersOf, memberName, memberType, memberLength, memberOffset, memberBit, noBit, isHidden, isLocal, memberAccess, programName, tagScope, tagName, tagId, tagType, tagLengths, lengthsOf, tagElements, tagAccess, isAlias, tagOffset, otherScope, otherName, otherId, otherType}
-use Rattle.definition.specs.Types.{isAtomic, isStructure, elementSize, DWORD}
+use Rattle.definition.specs.Tables.{Tables, Row, field, structureName, templateId, handle, structureSize, firstMember, memberCount, isAoi, templateStart, templateLength, membersIn, memberName, memberType, memberLength, memberOffset, memberBit, noBit, isHidden, isLocal, memberAccess, programName, tagScope, tagName, tagId, tagType, tagLengths, lengthsOf, tagElements, tagAccess, isAlias, tagOffset, otherScope, otherName, otherId, otherType}
+use Rattle.definition.specs.Types.{isAtomic, isStructure, sizeIn, DWORD}
 
 -- ---- the encoding: a row is a record
 
--- a part that starts at word a of a row and is word b long stands in its store
-abbrev pub stored : (a b : ℕ) → List ℕ → Row → Bool
-stored a b store r = leb (field a r + field b r) (length store)
+-- a part that starts at word a of a row and is word b long stands in a store of so many bytes
+abbrev pub stored : (a b : ℕ) (store : ℕ) → Row → Bool
+stored a b store r = leb (field a r + field b r) store
 
 abbrev pub isMark : ℕ → Bool
 isMark m = leb m 1
@@ -24,31 +24,34 @@ isMark m = leb m 1
 unfoldable pub isType : (bound type : ℕ) → Bool
 isType bound type = pick (isStructure type) (ltb (type - 0x100) bound) (isAtomic type)
 
-abbrev pub isScope : Tables → ℕ → Bool
-isScope t scope = leb scope (length (t .programs))
-
 abbrev pub is16 : ℕ → Bool
 is16 n = leb n 65535
 
-unfoldable pub structureEncoded : Tables → Row → Bool
-structureEncoded t r =
-    both (stored 0 1 (t .names) r) (both (is16 (templateId r)) (both (is16 (handle r))
-    (both (leb (firstMember r + memberCount r) (length (t .members))) (isMark (isAoi r)))))
+-- the numbers are those of the bytes of the store of names, and of the rows of another table
+unfoldable pub structureEncoded : (names members : ℕ) → Row → Bool
+structureEncoded names members r =
+    both (stored 0 1 names r) (both (is16 (templateId r)) (both (is16 (handle r))
+    (both (leb (firstMember r + memberCount r) members) (isMark (isAoi r)))))
 
-unfoldable pub memberEncoded : Tables → Row → Bool
-memberEncoded t r =
-    both (stored 0 1 (t .names) r) (both (isType (length (t .structures)) (memberType r)) (both (isMark (isHidden r)) (isMark (isLocal r))))
+unfoldable pub memberEncoded : (names structures : ℕ) → Row → Bool
+memberEncoded names structures r =
+    both (stored 0 1 names r) (both (isType structures (memberType r)) (both (isMark (isHidden r)) (isMark (isLocal r))))
 
-unfoldable pub tagEncoded : Tables → Row → Bool
-tagEncoded t r = both (isScope t (tagScope r)) (both (stored 1 2 (t .tagNames) r) (isMark (isAlias r)))
+-- a scope is 0, or k + 1 for program k
+unfoldable pub tagEncoded : (tagNames programs : ℕ) → Row → Bool
+tagEncoded tagNames programs r = both (leb (tagScope r) programs) (both (stored 1 2 tagNames r) (isMark (isAlias r)))
 
-unfoldable pub otherEncoded : Tables → Row → Bool
-otherEncoded t r = both (isScope t (otherScope r)) (both (stored 1 2 (t .names) r) (is16 (otherType r)))
+unfoldable pub otherEncoded : (names programs : ℕ) → Row → Bool
+otherEncoded names programs r = both (leb (otherScope r) programs) (both (stored 1 2 names r) (is16 (otherType r)))
 
 unfoldable pub encoded : Tables → Bool
 encoded t =
-    both (every (structureEncoded t) (t .structures)) (both (every (memberEncoded t) (t .members))
-    (both (every (stored 0 1 (t .names)) (t .programs)) (both (every (tagEncoded t) (t .tags)) (every (otherEncoded t) (t .others)))))
+    let names = length (t .names) in
+    both (every (structureEncoded names (length (t .members))) (t .structures))
+    (both (every (memberEncoded names (length (t .structures))) (t .members))
+    (both (every (stored 0 1 names) (t .programs))
+    (both (every (tagEncoded (length (t .tagNames)) (length (t .programs))) (t .tags))
+    (every (otherEncoded names (length (t .programs))) (t .others)))))
 
 -- ---- T1
 
@@ -65,21 +68,21 @@ unfoldable pub isName : List ℕ → Bool
 isName name = both (ltb 0 (length name)) (both (leb (length name) 40) (every (λ b. both (leb 0x20 b) (leb b 0x7E)) name))
 
 -- two symbols of one scope have different names
-unfoldable pub tagNamesDiffer : Tables → Row → Row → Bool
-tagNamesDiffer t a b = not (both (eqb (tagScope a) (tagScope b)) (sameName (tagName t a) (tagName t b)))
+unfoldable pub tagNamesDiffer : (tagNames : List ℕ) → Row → Row → Bool
+tagNamesDiffer tagNames a b = not (both (eqb (tagScope a) (tagScope b)) (sameName (tagName tagNames a) (tagName tagNames b)))
 
-unfoldable pub otherNamesDiffer : Tables → Row → Row → Bool
-otherNamesDiffer t a b = not (both (eqb (tagScope a) (otherScope b)) (sameName (tagName t a) (otherName t b)))
+unfoldable pub otherNamesDiffer : (tagNames names : List ℕ) → Row → Row → Bool
+otherNamesDiffer tagNames names a b = not (both (eqb (tagScope a) (otherScope b)) (sameName (tagName tagNames a) (otherName names b)))
 
-unfoldable pub programNamesDiffer : Tables → Row → Row → Bool
-programNamesDiffer t a b = not (sameName (programName t a) (programName t b))
+unfoldable pub programNamesDiffer : (names : List ℕ) → Row → Row → Bool
+programNamesDiffer names a b = not (sameName (programName names a) (programName names b))
 
 unfoldable pub t2 : Tables → Bool
 t2 t =
-    both (every (λ r. isName (structureName t r)) (t .structures)) (both (every (λ r. isName (memberName t r)) (t .members))
-    (both (every (λ r. isName (programName t r)) (t .programs)) (both (every (λ r. isName (tagName t r)) (t .tags))
-    (both (every (λ r. isName (otherName t r)) (t .others)) (both (pairs (tagNamesDiffer t) (t .tags))
-    (both (every (λ r. every (otherNamesDiffer t r) (t .others)) (t .tags)) (pairs (programNamesDiffer t) (t .programs))))))))
+    both (every (λ r. isName (structureName (t .names) r)) (t .structures)) (both (every (λ r. isName (memberName (t .names) r)) (t .members))
+    (both (every (λ r. isName (programName (t .names) r)) (t .programs)) (both (every (λ r. isName (tagName (t .tagNames) r)) (t .tags))
+    (both (every (λ r. isName (otherName (t .names) r)) (t .others)) (both (pairs (tagNamesDiffer (t .tagNames)) (t .tags))
+    (both (every (λ r. every (otherNamesDiffer (t .tagNames) (t .names) r) (t .others)) (t .tags)) (pairs (programNamesDiffer (t .names)) (t .programs))))))))
 
 -- ---- T3
 
@@ -95,24 +98,26 @@ t3 t =
 -- ---- T4
 
 -- all array elements counted, inside its structure; atomic or of an earlier structure; a bit of 0 to 7, or none
-unfoldable pub memberFits : Tables → (index : ℕ) (structure r : Row) → Bool
-memberFits t i s r =
+unfoldable pub memberFits : (structures : List Row) (index : ℕ) (structure r : Row) → Bool
+memberFits structures i s r =
     both (isType i (memberType r))
-    (both (leb (memberOffset r + elementSize t (memberType r) * max 1 (memberLength r)) (structureSize s)) (leb (memberBit r) noBit))
+    (both (leb (memberOffset r + sizeIn structures (memberType r) * max 1 (memberLength r)) (structureSize s)) (leb (memberBit r) noBit))
 
-unfoldable pub structureFits : Tables → (index : ℕ) → Row → Bool
-structureFits t i r =
+-- its template is a part of a store of so many bytes
+unfoldable pub structureFits : (structures members : List Row) (templates : ℕ) (index : ℕ) → Row → Bool
+structureFits structures members templates i r =
     both (ltb 0 (structureSize r)) (both (leb (structureSize r) 65535)
-    (both (leb (templateStart r + templateLength r) (length (t .templates))) (every (memberFits t i r) (membersOf t r))))
+    (both (leb (templateStart r + templateLength r) templates) (every (memberFits structures i r) (membersIn members r))))
 
 -- each structure with its index
-unfoldable pub structuresFit : Tables → ℕ → List Row → Bool
-structuresFit t i [] = true
-structuresFit t i (r ∷ rest) = both (structureFits t i r) (structuresFit t (suc i) rest)
+unfoldable pub structuresFit : (structures members : List Row) (templates : ℕ) (index : ℕ) → List Row → Bool
+structuresFit structures members templates i [] = true
+structuresFit structures members templates i (r ∷ rest) =
+    both (structureFits structures members templates i r) (structuresFit structures members templates (suc i) rest)
 
 -- a member that no structure has is a record too: its bit is 0 to 7, or none
 unfoldable pub t4 : Tables → Bool
-t4 t = both (structuresFit t 0 (t .structures)) (every (λ r. leb (memberBit r) noBit) (t .members))
+t4 t = both (structuresFit (t .structures) (t .members) (length (t .templates)) 0 (t .structures)) (every (λ r. leb (memberBit r) noBit) (t .members))
 
 -- ---- T5
 
@@ -129,24 +134,27 @@ unfoldable pub isBoolArray : Row → Bool
 isBoolArray r =
     both (eqb (tagType r) DWORD) (both (eqb (length (lengthsOf r)) 1) (eqb (tagElements r * 32) (field 5 r)))
 
-unfoldable pub tagFits : Tables → Row → Bool
-tagFits t r =
-    both (isType (length (t .structures)) (tagType r))
+unfoldable pub tagFits : (structures : ℕ) → Row → Bool
+tagFits structures r =
+    both (isType structures (tagType r))
     (both (zerosLast (tagLengths r)) (either (eqb (tagElements r) (product (lengthsOf r))) (isBoolArray r)))
 
 unfoldable pub t5 : Tables → Bool
-t5 t = every (tagFits t) (t .tags)
+t5 t = every (tagFits (length (t .structures))) (t .tags)
 
 -- ---- T6
 
-abbrev pub tagEnd : Tables → Row → ℕ
-tagEnd t r = tagOffset r + tagElements r * elementSize t (tagType r)
+abbrev pub endIn : (structures : List Row) → Row → ℕ
+endIn structures r = tagOffset r + tagElements r * sizeIn structures (tagType r)
 
-unfoldable pub apart : Tables → Row → Row → Bool
-apart t a b = either (leb (tagEnd t a) (tagOffset b)) (leb (tagEnd t b) (tagOffset a))
+abbrev pub tagEnd : Tables → Row → ℕ
+tagEnd t r = endIn (t .structures) r
+
+unfoldable pub apart : (structures : List Row) → Row → Row → Bool
+apart structures a b = either (leb (endIn structures a) (tagOffset b)) (leb (endIn structures b) (tagOffset a))
 
 unfoldable pub t6 : Tables → (memory : ℕ) → Bool
-t6 t memory = both (every (λ r. leb (tagEnd t r) memory) (t .tags)) (pairs (apart t) (t .tags))
+t6 t memory = both (every (λ r. leb (tagEnd t r) memory) (t .tags)) (pairs (apart (t .structures)) (t .tags))
 
 -- ---- all of them, for a tag memory of this length
 

@@ -1,15 +1,17 @@
--- What a test that came out true says of its parts and of each element, and what a scan can come to.
+-- What a test that came out true says of its parts and of each element, and what a scan can come to; what holds of each element, through `map` and `++`.
 -- Assumes nothing.
-use mathlib.Core.Path.{_≡_, refl}
+use mathlib.Core.Path.{_≡_, refl, sym, _∙_}
+use mathlib.Core.Logic.{_≢_}
 use mathlib.Core.Bool.{Bool, true, false}
-use mathlib.Core.List.{List, [], _∷_}
+use mathlib.Core.List.{List, [], _∷_, _++_, map}
 use Prim.Native.Nat.{ℕ, zero, suc, _+_, _<_}
 use native.Mathlib.Omega.{arith}
 use lib.ListN.{length, getD}
 use Rattle.laws.specs.Pick.{pick, both, either, isEmpty}
 use Rattle.laws.specs.Scan.{scan}
+use Rattle.laws.specs.Sorted.{All, Distinct}
 use Rattle.laws.specs.Tests.{every}
-use Rattle.laws.proofs.Chain.{pick-all}
+use Rattle.laws.proofs.Chain.{pick-all, both-off-2}
 
 pub both-true : (t u : Bool) → both t u ≡ true → (t ≡ true) × (u ≡ true)
 both-true true u e = (refl, e)
@@ -41,3 +43,33 @@ module _ {A : Type 0} (p : A → Bool) where
   unfolding scan
   scan-all P hit miss i [] m h = m
   scan-all P hit miss i (x ∷ xs) m h = pick-all P (p x) (h i (omega arith)) (scan-all P hit miss (suc i) xs m (λ j l. h j (omega arith)))
+
+-- ---- a test among many, and what holds of each element
+
+pub both-none : (b : Bool) → both b false ≡ false
+both-none b = both-off-2 b false refl
+
+-- a test among many that hold together holds: at a place, the last premise is `λ e. simp (e, both-none)`
+pub among : (b whole : Bool) → whole ≡ true → (b ≡ false → whole ≡ false) → b ≡ true
+among true whole e f = refl
+among false whole e f = sym (f refl) ∙ e
+
+pub every-All : {A : Type 0} (p : A → Bool) (P : A → Type 0) → ((x : A) → p x ≡ true → P x) → (xs : List A) → every p xs ≡ true → All P xs
+unfolding every
+every-All p P f [] e = tt
+every-All p P f (x ∷ xs) e =
+    (f x (among (p x) _ e (λ n. rw n)), every-All p P f xs (among (every p xs) _ e (λ n. rw (n, both-none))))
+
+pub All-of-map : {A B : Type 0} (f : A → B) (P : B → Type 0) → ((x : A) → P (f x)) → (xs : List A) → All P (map f xs)
+All-of-map f P h [] = tt
+All-of-map f P h (x ∷ xs) = (h x, All-of-map f P h xs)
+
+pub All-append : {A : Type 0} (P : A → Type 0) (xs ys : List A) → All P xs → All P ys → All P (xs ++ ys)
+All-append P [] ys a b = b
+All-append P (x ∷ xs) ys a b = (a .0, All-append P xs ys (a .1) b)
+
+pub Distinct-append : {A : Type 0} (key : A → ℕ) (xs ys : List A) → Distinct key xs → Distinct key ys
+    → All (λ x. All (λ y. key x ≢ key y) ys) xs → Distinct key (xs ++ ys)
+Distinct-append key [] ys d e a = e
+Distinct-append key (x ∷ xs) ys d e a =
+    (All-append (λ y. key x ≢ key y) xs ys (d .0) (a .0), Distinct-append key xs ys (d .1) e (a .1))

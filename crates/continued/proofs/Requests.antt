@@ -1,0 +1,106 @@
+-- What the definition makes of the exact bytes of a continued read and of a page's request.
+-- Assumes nothing.
+use mathlib.Core.Path.{_≡_, refl}
+use mathlib.Core.Bool.{Bool, true, false}
+use mathlib.Core.List.{List, [], _∷_, _++_, append-assoc}
+use mathlib.Core.Option.{some}
+use Prim.Native.Nat.{ℕ, _+_, _*_, _/_, _≤_, _<_}
+use native.Mathlib.Nat.{div-div-eq-div-mul}
+use native.Mathlib.Omega.{arith}
+use lib.Dec.{eqb, lit≤}
+use lib.ListN.{length, length-append}
+use lib.Seq.{take-append-seam, drop-append-seam, drop-append-add}
+use borrow.Author.Tests.{le-ltb, eqb-true}
+use Rattle.laws.specs.Pick.{either}
+use Rattle.laws.specs.Sorted.{All}
+use Rattle.laws.proofs.Chain.{by-test}
+use Rattle.laws.proofs.Tests.{both-none}
+use Rattle.definition.specs.Bytes.{u16At, u32At, le16, le32, numbers, counted}
+use Rattle.definition.specs.Reply.{answered}
+use Rattle.definition.specs.Segment.{Segment}
+use Rattle.definition.specs.Request.{request, requestOf, Object, object, noObject, objectOf, isTagPath}
+use Rattle.definition.specs.Tables.{Tables, Flags}
+use Rattle.definition.specs.Symbols.{isListed, listSymbols}
+use Rattle.definition.specs.Answer.{tagService, byService, byObject, plain, answer}
+use Rattle.continued.specs.Reads.{Memory}
+use Rattle.continued.specs.Point3.{Encodes, readRequest, numberBytes, pageRequest}
+
+-- ---- numbers and their bytes
+
+pub u16-le16 : (n : ℕ) (rest : List ℕ) → n < 65536 → u16At (le16 n ++ rest) 0 ≡ n
+u16-le16 n rest h = omega arith
+
+pub u32-le32 : (n : ℕ) (rest : List ℕ) → n < 4294967296 → u32At (le32 n ++ rest) 0 ≡ n
+u32-le32 n rest h = omega (arith, div-div-eq-div-mul n 256 256, rw (div-div-eq-div-mul n 65536 256) at (u16-le16 (n / 65536) rest (omega arith)))
+
+number-bytes-length : (ns : List ℕ) → length (numberBytes ns) ≡ 2 * length ns
+number-bytes-length [] = refl
+number-bytes-length (n ∷ ns) = omega (arith, number-bytes-length ns)
+
+numbers-back : (ns : List ℕ) → All (λ n. n < 65536) ns → numbers (length ns) (numberBytes ns) ≡ ns
+unfolding numbers
+numbers-back [] a = refl
+numbers-back (n ∷ ns) a = rw (u16-le16 n (numberBytes ns) (a .0), numbers-back ns (a .1))
+
+pub counted-back : (ns : List ℕ) → length ns < 65536 → All (λ n. n < 65536) ns → counted (le16 (length ns) ++ numberBytes ns) ≡ some ns
+unfolding counted
+counted-back ns h a =
+    let fits : 2 + 2 * length ns ≤ length (le16 (length ns) ++ numberBytes ns) = omega (arith, number-bytes-length ns) in
+    rw (u16-le16 (length ns) (numberBytes ns) h, le-ltb, numbers-back ns a)
+
+-- an attribute of those accepted is a small number
+one-of : (n k : ℕ) (rest : Bool) → k < 65536 → (rest ≡ true → n < 65536) → either (eqb n k) rest ≡ true → n < 65536
+one-of n k rest h more e = by-test (eqb n k) (λ t. omega (arith, eqb-true n k t)) (λ t. more (rw t at e))
+
+pub listed-small : (n : ℕ) → isListed n ≡ true → n < 65536
+unfolding isListed
+listed-small n =
+    one-of n 1 _ (lit≤ tt) (one-of n 2 _ (lit≤ tt) (one-of n 3 _ (lit≤ tt) (one-of n 5 _ (lit≤ tt)
+    (one-of n 6 _ (lit≤ tt) (one-of n 7 _ (lit≤ tt) (one-of n 8 _ (lit≤ tt) (λ e. omega (arith, eqb-true n 10 e))))))))
+
+-- ---- the message
+
+pub decoded-request : (service : ℕ) (path : List ℕ) (decoded : List Segment) (body : List ℕ) → Encodes path decoded
+    → requestOf (service ∷ length path / 2 ∷ path ++ body) ≡ request service decoded body
+unfolding requestOf
+decoded-request service path decoded body e =
+    let fits : 2 + length path ≤ length (service ∷ length path / 2 ∷ path ++ body) = omega (arith, length-append path body) in
+    rw (
+      e .whole-words,
+      drop-append-add (service ∷ length path / 2 ∷ []) (path ++ body) (length path),
+      le-ltb,
+      take-append-seam path body,
+      drop-append-seam,
+      e .decodes,
+    )
+
+past-objects : (t : Tables) (f : Flags) (m : Memory) (service : ℕ) (o : Object) (path : List Segment) (body : List ℕ) (limit : ℕ)
+    → eqb service 0x03 ≡ false → eqb service 0x4C ≡ false
+    → byObject t f m service o path body limit ≡ byService t f m service path body limit
+past-objects t f m service noObject path body limit a b = refl
+past-objects t f m service (object c i) path body limit a b =
+    rw (a, b, both-none (eqb c 0x6B), both-none (eqb c 0x6C))
+
+-- a service that is no envelope's and no object's own goes to the services proper
+pub to-service : (t : Tables) (f : Flags) (m : Memory) (service : ℕ) (path : List ℕ) (decoded : List Segment) (body : List ℕ) (limit : ℕ)
+    → Encodes path decoded → eqb service 0x0A ≡ false → eqb service 0x03 ≡ false → eqb service 0x4C ≡ false
+    → answer t f m (service ∷ length path / 2 ∷ path ++ body) limit ≡ byService t f m service decoded body limit
+unfolding answer plain
+to-service t f m service path decoded body limit e a b c =
+    rw (decoded-request service path decoded body e, a) (past-objects t f m service (objectOf decoded) decoded body limit b c)
+
+pub answer-read : (t : Tables) (f : Flags) (m : Memory) (path : List ℕ) (decoded : List Segment) (elements offset limit : ℕ)
+    → Encodes path decoded → isTagPath decoded ≡ true
+    → answer t f m (readRequest path elements offset) limit ≡ tagService t f m 0x52 decoded (le16 elements ++ le32 offset) limit
+unfolding readRequest byService
+answer-read t f m path decoded elements offset limit e tag =
+    rw (append-assoc path (le16 elements) (le32 offset), to-service t f m 0x52 path decoded (le16 elements ++ le32 offset) limit e refl refl refl, tag)
+
+pub answer-page : (t : Tables) (f : Flags) (m : Memory) (path : List ℕ) (decoded : List Segment) (attributes : List ℕ) (limit : ℕ)
+    → Encodes path decoded
+    → answer t f m (pageRequest path attributes) limit
+    ≡ answered (listSymbols t 0x55 decoded (le16 (length attributes) ++ numberBytes attributes) limit) m
+unfolding pageRequest byService
+answer-page t f m path decoded attributes limit e =
+    rw (append-assoc path (le16 (length attributes)) (numberBytes attributes))
+    (to-service t f m 0x55 path decoded (le16 (length attributes) ++ numberBytes attributes) limit e refl refl refl)

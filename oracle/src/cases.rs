@@ -1,0 +1,127 @@
+//! The cases of a table set: the reference's answers, and the entry refusals that document 01 alone decides.
+
+use crate::broken::broken;
+use crate::messages::Talk;
+use crate::rng::Rng;
+use crate::tables::{self, Set};
+use crate::{tally, valid};
+use ciplink_sim::logix::Logix;
+
+pub enum Expected {
+    /// An entry number: nothing is written.
+    Refused(u32),
+    Replied(Vec<u8>),
+}
+
+pub struct Case {
+    pub message: Vec<u8>,
+    pub limit: usize,
+    /// The reply buffer before: this many times this byte.
+    pub room: usize,
+    pub fill: u8,
+    pub expected: Expected,
+    /// Tag memory before and afterwards.
+    pub before: Vec<u8>,
+    pub after: Vec<u8>,
+}
+
+impl Case {
+    pub fn reply(&self) -> &[u8] {
+        match &self.expected {
+            Expected::Refused(_) => &[],
+            Expected::Replied(reply) => reply,
+        }
+    }
+}
+
+/// What to generate.
+#[derive(Clone, Copy)]
+pub struct Wanted {
+    pub messages: usize,
+    /// Limits stay at or below this.
+    pub most: usize,
+    /// Of a hundred messages, how many are refused at the entry.
+    pub refused: u32,
+}
+
+/// A table set with its cases, each starting from the tag memory that the one before it left; and what was broken
+/// in the tables, if they were (then each case is refused).
+pub struct Run {
+    pub set: Set,
+    pub cases: Vec<Case>,
+    pub broken: Option<&'static str>,
+}
+
+/// The valid table set of a seed and the reference's answers on it.
+pub fn run(seed: u64, wanted: Wanted) -> Run {
+    let mut rng = Rng::new(seed);
+    let set = tables::set(&mut rng);
+    if let Err(what) = valid::valid(&set.tables, &set.memory) {
+        panic!("seed {seed}: the generated tables break a rule: {what}");
+    }
+    let mut logix = Logix::from_rows(&set.tables, set.flags, &set.memory);
+    let mut memory = set.memory.clone();
+    let mut entry = Rng::new(!seed);
+    let mut talk = Talk::new(&set, &mut rng, wanted.most);
+    let mut cases = Vec::with_capacity(wanted.messages);
+    while cases.len() < wanted.messages {
+        let message = talk.message();
+        if !tally::in_domain(&message) {
+            continue;
+        }
+        if entry.chance(wanted.refused) {
+            cases.push(refused(&mut entry, message, &memory, false));
+            continue;
+        }
+        let limit = talk.limit(|| logix.clone().answer(&message, 65_535).len());
+        let reply = logix.answer(&message, limit);
+        talk.heard(&reply);
+        let before = memory.clone();
+        logix.store(&set.tables, &mut memory);
+        let room = limit.max(8) + entry.below(4) as usize;
+        let (fill, after) = (entry.byte() | 1, memory.clone());
+        let expected = Expected::Replied(reply);
+        cases.push(Case { message, limit, room, fill, expected, before, after });
+    }
+    Run { set, cases, broken: None }
+}
+
+/// The same set broken in one place: refused with number 4, unless the limit or the buffer comes first.
+pub fn run_broken(seed: u64, set: &Set) -> Run {
+    let mut rng = Rng::new(seed ^ 0x5EED);
+    let (what, set) = broken(&mut rng, set);
+    let mut cases = Vec::new();
+    for _ in 0..2 {
+        let mut other = Rng::new(rng.next());
+        let message = Talk::new(&set, &mut other, 100).message_of_any_tables();
+        cases.push(refused(&mut rng, message, &set.memory, true));
+    }
+    Run { set, cases, broken: Some(what) }
+}
+
+/// A case that the entry refuses: limit above 65,535, buffer below max(8, limit), tables broken, in this order.
+fn refused(rng: &mut Rng, message: Vec<u8>, memory: &[u8], broken: bool) -> Case {
+    let limit = match rng.below(5) {
+        0 => *rng.pick(&[65_536, 65_537, 1_000_000]),
+        _ => *rng.pick(&[0, 4, 7, 8, 9, 60]),
+    };
+    let enough = limit.max(8);
+    let room = match broken && rng.chance(80) && enough < 1000 {
+        true => enough + rng.below(3) as usize,
+        false => rng.below(enough.min(60) as u32) as usize,
+    };
+    let number = match (limit > 65_535, room < enough) {
+        (true, _) => 2,
+        (false, true) => 3,
+        (false, false) => 4,
+    };
+    Case {
+        message,
+        limit,
+        room,
+        fill: rng.byte() | 1,
+        expected: Expected::Refused(number),
+        before: memory.to_vec(),
+        after: memory.to_vec(),
+    }
+}
