@@ -1,5 +1,5 @@
 -- Document 01, items 14 and 15: a tag service's target, or the status that turns the service away before its data is looked at.
--- 1756-PM020 names external access; document 01 alone defines the rule for AOI types and the order.
+-- All of it is document 01's alone; 1756-PM020 names external access.
 use mathlib.Core.Bool.{Bool}
 use mathlib.Core.List.{List}
 use lib.Dec.{eqb}

@@ -1,5 +1,5 @@
 -- Document 01, "Dispatch and what turns a request away", items 5 to 20 in their order.
--- CIP Volume 1 and 1756-PM020 define the services; which is tried first, and item 20, are document 01's alone.
+-- All of it is document 01's alone: which service is tried first, and item 20. The papers define the services.
 use mathlib.Core.Bool.{Bool, false, not}
 use mathlib.Core.List.{List}
 use Prim.Native.Nat.{ℕ}

@@ -14,20 +14,24 @@ use Rattle.definition.specs.Lookup.{programOf, tagWithId, otherWithId, s
 
 -- ---- the reply: the count, then for each number itself, 0x0000 and the value, or itself and 0x0014 if unknown
 
+-- [CIP]
 abbrev pub attributeEntry : (number : ℕ) → Option (List ℕ) → List ℕ
 attributeEntry number none = le16 number ++ le16 0x0014
 attributeEntry number (some value) = le16 number ++ le16 0x0000 ++ value
 
+-- [CIP]
 unfoldable pub attributeEntries : (value : ℕ → Option (List ℕ)) → List ℕ → List ℕ
 attributeEntries value [] = []
 attributeEntries value (a ∷ rest) = attributeEntry a (value a) ++ attributeEntries value rest
 
+-- [CIP]
 abbrev pub listReply : (service : ℕ) → (value : ℕ → Option (List ℕ)) → Option (List ℕ) → List ℕ
 listReply service value none = fail service tooShort
 listReply service value (some list) = reply service success (le16 (length list) ++ attributeEntries value list)
 
 -- ---- class 0x6C: 1 handle, 2 member count, 4 (template length + 23) ÷ 4 rounded up, 5 size
 
+-- [PM020]
 unfoldable pub structureAttribute : Row → (number : ℕ) → Option (List ℕ)
 structureAttribute r a =
     pick (eqb a 1) (some (le16 (handle r)))
@@ -35,26 +39,28 @@ structureAttribute r a =
     (pick (eqb a 4) (some (le32 ((templateLength r + 23 + 3) / 4)))
     (pick (eqb a 5) (some (le32 (structureSize r))) none)))
 
--- of the structure that a template ID means; 0x05 for an unknown one
+-- of the structure that a template ID means; 0x05 for an unknown one [01]
 abbrev pub structureList : Tables → (service : ℕ) → Option ℕ → (body : List ℕ) → List ℕ
 structureList t service none body = fail service pathUnknown
 structureList t service (some i) body = listReply service (structureAttribute (structureAt t i)) (counted body)
 
+-- [01]
 unfoldable pub structureAttributes : Tables → (service id : ℕ) (body : List ℕ) → List ℕ
 structureAttributes t service id body = structureList t service (structureWithTemplate t id) body
 
 -- ---- class 0x6B: 0x0D only, for an other symbol named as a known program: 03 20 68 25 00 and 0x5AD0 plus the program's position
 
+-- [01]
 abbrev pub programReference : Option ℕ → (number : ℕ) → Option (List ℕ)
 programReference none a = none
 programReference (some k) a = pick (eqb a 0x0D) (some (0x03 ∷ 0x20 ∷ 0x68 ∷ 0x25 ∷ 0x00 ∷ le16 (0x5AD0 + k))) none
 
--- the program that the other symbol of this index is named as
+-- the program that the other symbol of this index is named as [01]
 abbrev pub namedProgram : Tables → Option ℕ → Option ℕ
 namedProgram t none = none
 namedProgram t (some i) = programOf t (otherName (t .names) (getD (t .others) i []))
 
--- 0x05 for an ID not in the controller scope
+-- 0x05 for an ID not in the controller scope [01]
 unfoldable pub symbolAttributes : Tables → (service id : ℕ) (body : List ℕ) → List ℕ
 symbolAttributes t service id body =
     let other = otherWithId t 0 id in

@@ -1,5 +1,5 @@
 -- Document 01, "Dispatch and what turns a request away", items 1 to 4: the entry numbers, with nothing written; and all of it, for all inputs.
--- Document 01 alone defines them.
+-- All of it is document 01's alone.
 use mathlib.Core.List.{List}
 use Prim.Native.Nat.{ℕ}
 use lib.Dec.{ltb}

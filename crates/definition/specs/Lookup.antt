@@ -1,5 +1,5 @@
 -- Document 01, "Type, member, tag" and "Target": the lookups, each the first in table order.
--- Document 01 alone defines them.
+-- All of it is document 01's alone.
 use mathlib.Core.Bool.{Bool, not}
 use mathlib.Core.List.{List, []}
 use mathlib.Core.Option.{Option, none, some}

@@ -14,17 +14,18 @@ use Rattle.definition.specs.Types.{hasBits, atomicSize}
 use Rattle.definition.specs.Resolve.{Target}
 use Rattle.definition.specs.Write.{Stored, store, noStore}
 
--- byte by byte, at any width
+-- byte by byte, at any width [PM020]
 unfoldable pub masked : (bytes ors ands : List ℕ) → List ℕ
 masked [] os ns = []
 masked (b ∷ bs) [] ns = []
 masked (b ∷ bs) (o ∷ os) [] = []
 masked (b ∷ bs) (o ∷ os) (n ∷ ns) = bitAnd (bitOr b o) n ∷ masked bs os ns
 
--- a structure, a bit, a BOOL, REAL or LREAL, or a wrong size, is a wrong type
+-- a structure, a bit, a BOOL, REAL or LREAL, or a wrong size, is a wrong type [01]
 unfoldable pub takesMask : Target → (size : ℕ) → Bool
 takesMask g size = both (eqb (g .bit) noBit) (both (hasBits (g .type)) (eqb (atomicSize (g .type)) size))
 
+-- [01]
 unfoldable pub maskedStored : (memory : List ℕ) → Target → (body : List ℕ) → Stored
 maskedStored memory g body =
     let size = u16At body 0 in

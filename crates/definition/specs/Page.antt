@@ -14,23 +14,26 @@ pub record Entry : Type 0 where
   pub id : ℕ
   pub bytes : List ℕ
 
+-- [01]
 abbrev pub idOf : Entry → ℕ
 idOf e = e .id
 
+-- [PM020]
 unfoldable pub bytesOf : List Entry → List ℕ
 bytesOf [] = []
 bytesOf (e ∷ es) = e .bytes ++ bytesOf es
 
--- the number of entries that fit, up to the first that does not
+-- the number of entries that fit, up to the first that does not [PM020]
 unfoldable pub fitting : (space : ℕ) → List Entry → ℕ
 fitting space [] = 0
 fitting space (e ∷ es) = pick (leb (length (e .bytes)) space) (suc (fitting (space - length (e .bytes)) es)) 0
 
+-- [01]
 unfoldable pub firstUnfit : (space : ℕ) → List Entry → Bool
 firstUnfit space [] = false
 firstUnfit space (e ∷ es) = ltb space (length (e .bytes))
 
--- the page of the entries due, at a limit
+-- the page of the entries due, at a limit [01]
 unfoldable pub pageReply : (service : ℕ) → List Entry → (limit : ℕ) → List ℕ
 pageReply service due limit =
     let n = fitting (limit - 4) due in

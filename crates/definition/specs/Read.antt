@@ -20,11 +20,11 @@ pub record Selection : Type 0 where
   pub bit : ℕ
   pub header : List ℕ
 
--- bit k of a byte, as the BOOL that it reads as
+-- bit k of a byte, as the BOOL that it reads as [01]
 abbrev pub bitOf : (b k : ℕ) → ℕ
 bitOf b k = b / 2 ^ k % 2
 
--- of a tag memory; for a bit its BOOL byte
+-- of a tag memory; for a bit its BOOL byte [01]
 unfoldable pub selectedBytes : Selection → (memory : List ℕ) → List ℕ
 selectedBytes s memory = pick (eqb (s .bit) noBit) (part memory (s .start) (s .size)) (bitOf (getD memory (s .start) 0) (s .bit) ∷ [])
 
@@ -32,7 +32,7 @@ pub data Asked : Type 0 where
   granted : Selection → Asked
   notGranted : Status → Asked
 
--- element count × element size bytes from the target's first
+-- element count × element size bytes from the target's first [PM020]
 unfoldable pub selection : Tables → Target → (elements : ℕ) → Selection
 selection t g elements = record {
   start = g .start;
@@ -41,31 +41,33 @@ selection t g elements = record {
   header = typeHeader (t .structures) (g .type);
 }
 
--- all of item 16's refusals that depend neither on the offset nor on missing data
+-- all of item 16's refusals that depend neither on the offset nor on missing data [01]
 unfoldable pub ask : Tables → Target → (elements : ℕ) → Asked
 ask t g elements =
     pick (eqb (g .bit) noBit)
     (pick (eqb elements 0) (notGranted noElements) (pick (ltb (g .count) elements) (notGranted beyondEnd) (granted (selection t g elements))))
     (pick (eqb elements 1) (granted (selection t g elements)) (notGranted beyondEnd))
 
--- a read of a path's target, found or not
+-- a read of a path's target, found or not [01]
 abbrev pub askTarget : Tables → Resolved → (elements : ℕ) → Asked
 askTarget t (found g) elements = ask t g elements
 askTarget t (turned status) elements = notGranted status
 
--- the offset is checked last: at or past the length is beyond the end
+-- the offset is checked last: at or past the length is beyond the end [01]
 unfoldable pub sendFrom : (service : ℕ) (header value : List ℕ) (offset limit : ℕ) → List ℕ
 sendFrom service header value offset limit =
     pick (leb (length value) offset) (fail service beyondEnd) (fragmentReply service header (drop offset value) limit)
 
+-- [01]
 abbrev pub send : (service : ℕ) → Asked → (memory : List ℕ) (offset limit : ℕ) → List ℕ
 send service (granted s) memory offset limit = sendFrom service (s .header) (selectedBytes s memory) offset limit
 send service (notGranted status) memory offset limit = fail service status
 
--- 0x52 has an offset of 32 bits behind the 16-bit element count; data beyond these fields is ignored
+-- 0x52 has an offset of 32 bits behind the 16-bit element count; data beyond these fields is ignored [PM020]
 abbrev pub isFragmented : (service : ℕ) → Bool
 isFragmented service = eqb service 0x52
 
+-- [01]
 unfoldable pub readReply : Tables → (memory : List ℕ) (service : ℕ) → Target → (body : List ℕ) (limit : ℕ) → List ℕ
 readReply t memory service g body limit =
     pick (ltb (length body) (pick (isFragmented service) 6 2)) (fail service tooShort)

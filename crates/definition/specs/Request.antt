@@ -17,10 +17,12 @@ pub data Request : Type 0 where
   malformed : Request
   request : (service : ℕ) (path : List Segment) (body : List ℕ) → Request
 
+-- [CIP]
 abbrev pub withPath : ℕ → Option (List Segment) → List ℕ → Request
 withPath service none body = malformed
 withPath service (some path) body = request service path body
 
+-- [CIP]
 unfoldable pub requestOf : List ℕ → Request
 requestOf m =
     let size = 2 * getD m 1 0 in
@@ -32,27 +34,31 @@ pub data Object : Type 0 where
   object : (c i : ℕ) → Object
   noObject : Object
 
+-- [CIP]
 abbrev pub objectBy : Option ℕ → Option ℕ → Object
 objectBy none i = noObject
 objectBy (some c) none = noObject
 objectBy (some c) (some i) = object c i
 
+-- [CIP]
 abbrev pub objectOf : List Segment → Object
 objectOf [] = noObject
 objectOf (s ∷ []) = noObject
 objectOf (s ∷ (u ∷ rest)) = objectBy (classOf s) (instanceOf u)
 
--- class 0x6B and an instance
+-- class 0x6B and an instance [PM020]
 abbrev pub symbolInstance : Object → Option ℕ
 symbolInstance noObject = none
 symbolInstance (object c i) = pick (eqb c 0x6B) (some i) none
 
 -- ---- a tag path: a symbol first, or class 0x6B and an instance; if a program name with something after it comes first, the same test is put to the rest
 
+-- [01]
 abbrev pub startsTag : Option (List ℕ) → (rest : List Segment) (byInstance again : Bool) → Bool
 startsTag none rest byInstance again = byInstance
 startsTag (some name) rest byInstance again = pick (both (isProgramName name) (not (isEmpty rest))) again true
 
+-- [01]
 unfoldable pub isTagPath : List Segment → Bool
 isTagPath [] = false
 isTagPath (s ∷ rest) = startsTag (nameOf s) rest (isSome (symbolInstance (objectOf (s ∷ rest)))) (isTagPath rest)

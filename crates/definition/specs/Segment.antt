@@ -25,7 +25,7 @@ pub data Segment : Type 0 where
 pub data Kind : Type 0 where
   portKind classKind instanceKind elementKind attributeKind symbolKind noKind : Kind
 
--- 0x20 to 0x3F, masked with 0x1C
+-- 0x20 to 0x3F, masked with 0x1C [CIP]
 abbrev pub logicalType : ℕ → Kind
 logicalType t =
     pick (eqb t 0x00) classKind
@@ -33,10 +33,11 @@ logicalType t =
     (pick (eqb t 0x08) elementKind
     (pick (eqb t 0x10) attributeKind noKind)))
 
--- the low two bits of a logical segment give its value's form: 0, 1 and 2, and 3 is invalid
+-- the low two bits of a logical segment give its value's form: 0, 1 and 2, and 3 is invalid [CIP]
 abbrev pub form : ℕ → ℕ
 form b = b % 4
 
+-- [CIP]
 unfoldable pub kindOf : ℕ → Kind
 kindOf b =
     pick (ltb b 0x20) portKind
@@ -49,32 +50,32 @@ pub data Step : Type 0 where
   step : Segment → (next : ℕ) → Step
   cut : Step
 
--- `need` bytes stand in the path from `at` on: the segment, which ends behind them
+-- `need` bytes stand in the path from `at` on: the segment, which ends behind them [01]
 abbrev pub within : (path : List ℕ) (at need : ℕ) → Segment → Step
 within path at need s = pick (leb (at + need) (length path)) (step s (at + need)) cut
 
--- form 0: an 8-bit value; 1: a pad and 16 bits; 2: a pad and 32 bits
+-- form 0: an 8-bit value; 1: a pad and 16 bits; 2: a pad and 32 bits [CIP]
 unfoldable pub logicalAt : (path : List ℕ) (at : ℕ) (f : ℕ) → (ℕ → Segment) → Step
 logicalAt path at f make =
     pick (eqb f 0) (within path at 1 (make (getD path at 0)))
     (pick (eqb f 1) (within path at 3 (make (u16At path (at + 1))))
     (within path at 5 (make (u32At path (at + 1)))))
 
--- a size byte, as many bytes, a pad if odd
+-- a size byte, as many bytes, a pad if odd [CIP]
 unfoldable pub sizedAt : (path : List ℕ) (at : ℕ) → (List ℕ → Segment) → Step
 sizedAt path at make =
     let n = getD path at 0 in
     pick (ltb at (length path)) (within path (at + 1) (n + n % 2) (make (part path (at + 1) n))) cut
 
--- behind a port's number: the link with its size (bit 0x10), or one link byte
+-- behind a port's number: the link with its size (bit 0x10), or one link byte [CIP]
 unfoldable pub linkAt : (path : List ℕ) (at b : ℕ) → Step
 linkAt path at b = pick (ltb b 0x10) (within path at 1 port) (sizedAt path at (λ link. port))
 
--- a port number of 15 means that a 16-bit number follows, before anything else
+-- a port number of 15 means that a 16-bit number follows, before anything else [CIP]
 unfoldable pub portAt : (path : List ℕ) (at b : ℕ) → Step
 portAt path at b = pick (eqb (b % 16) 15) (linkAt path (at + 2) b) (linkAt path at b)
 
--- what follows the first byte b, from `at` on
+-- what follows the first byte b, from `at` on [CIP]
 abbrev pub byKind : Kind → (path : List ℕ) (at b : ℕ) → Step
 byKind portKind path at b = portAt path at b
 byKind classKind path at b = logicalAt path at (form b) class
@@ -84,32 +85,38 @@ byKind attributeKind path at b = logicalAt path at (form b) attribute
 byKind symbolKind path at b = sizedAt path at symbol
 byKind noKind path at b = cut
 
+-- [CIP]
 unfoldable pub segmentAt : (path : List ℕ) (at : ℕ) → Step
 segmentAt path at = let b = getD path at 0 in byKind (kindOf b) path (at + 1) b
 
 -- ---- the segments of a whole path
 
+-- [01]
 abbrev pub nextOf : Step → ℕ
 nextOf (step s next) = next
 nextOf cut = 0
 
+-- [01]
 abbrev pub segmentOf : Step → Segment
 segmentOf (step s next) = s
 segmentOf cut = port
 
+-- [01]
 abbrev pub onlySegments : Option (List Step) → Option (List Segment)
 onlySegments none = none
 onlySegments (some steps) = some (map segmentOf steps)
 
--- from a position on; none where one is invalid or cut short; a path has no more segments than bytes
+-- from a position on; none where one is invalid or cut short; a path has no more segments than bytes [CIP]
 unfoldable pub segmentsFrom : (path : List ℕ) (at : ℕ) → Option (List Segment)
 segmentsFrom path at = onlySegments (items (segmentAt path) nextOf (length path) (length path) at)
 
+-- [CIP]
 abbrev pub segments : List ℕ → Option (List Segment)
 segments path = segmentsFrom path 0
 
 -- ---- what a segment is
 
+-- [01]
 abbrev pub classOf : Segment → Option ℕ
 classOf port = none
 classOf (class c) = some c
@@ -118,6 +125,7 @@ classOf (element e) = none
 classOf (attribute a) = none
 classOf (symbol s) = none
 
+-- [01]
 abbrev pub instanceOf : Segment → Option ℕ
 instanceOf port = none
 instanceOf (class c) = none
@@ -126,6 +134,7 @@ instanceOf (element e) = none
 instanceOf (attribute a) = none
 instanceOf (symbol s) = none
 
+-- [01]
 abbrev pub elementOf : Segment → Option ℕ
 elementOf port = none
 elementOf (class c) = none
@@ -134,6 +143,7 @@ elementOf (element e) = some e
 elementOf (attribute a) = none
 elementOf (symbol s) = none
 
+-- [01]
 abbrev pub nameOf : Segment → Option (List ℕ)
 nameOf port = none
 nameOf (class c) = none

@@ -1,5 +1,5 @@
 -- Document 01, "Type, member, tag": the table set, as rows of 32-bit words, and its rows' fields by name. The flags.
--- Document 01 alone defines the tables; how they are laid out in rows is this project's choice (docs/DECISIONS.md).
+-- All of it is document 01's alone; how tables are laid out in rows is this project's choice (docs/DECISIONS.md).
 use mathlib.Core.Bool.{Bool, not}
 use mathlib.Core.List.{List, [], _∷_}
 use Prim.Native.Nat.{ℕ}

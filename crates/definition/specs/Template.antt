@@ -9,7 +9,7 @@ use Rattle.definition.specs.Bytes.{u16At, u32At, part}
 use Rattle.definition.specs.Reply.{reply, fail, success, partial, tooLarge, tooShort, beyondEnd}
 use Rattle.definition.specs.Tables.{Tables, Row, templateStart, templateLength}
 
--- `due` bytes from an offset of a template, cut to s = limit - 4 with no rounding
+-- `due` bytes from an offset of a template, cut to s = limit - 4 with no rounding [PM020]
 unfoldable pub sendTemplate : Tables → Row → (service offset due limit : ℕ) → List ℕ
 sendTemplate t r service offset due limit =
     let s = limit - 4 in
@@ -17,7 +17,7 @@ sendTemplate t r service offset due limit =
     pick (leb due s) (reply service success (part (t .templates) from due))
     (pick (eqb s 0) (fail service tooLarge) (reply service partial (part (t .templates) from s)))
 
--- the smaller of the wanted count and the bytes left is due
+-- the smaller of the wanted count and the bytes left is due [01]
 unfoldable pub templateReply : Tables → Row → (service : ℕ) (body : List ℕ) (limit : ℕ) → List ℕ
 templateReply t r service body limit =
     let offset = u32At body 0 in

@@ -1,5 +1,5 @@
 -- Document 01, "Type, member, tag", T1 to T6, one test each, and item 4: the tables' encoding in rows.
--- Document 01 alone defines them. A row's words have 32 bits by their type.
+-- All of it is document 01's alone. A row's words have 32 bits by their type.
 use mathlib.Core.Bool.{Bool, not, true}
 use mathlib.Core.List.{List, [], _∷_}
 use Prim.Native.Nat.{ℕ, suc, _+_, _*_, _-_, max}

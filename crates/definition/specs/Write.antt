@@ -19,6 +19,7 @@ pub data Stored : Type 0 where
   store : (at : ℕ) (bytes : List ℕ) → Stored
   noStore : Status → Stored
 
+-- [01]
 abbrev pub storeAnswer : (service : ℕ) → Stored → (memory : List ℕ) → Answer
 storeAnswer service (store at bytes) memory = answered (fail service success) (put memory at bytes)
 storeAnswer service (noStore status) memory = answered (fail service status) memory
@@ -32,19 +33,23 @@ pub record Fields : Type 0 where
   pub offset : ℕ
   pub value : List ℕ
 
+-- [PM020]
 abbrev pub structureCode : ℕ
 structureCode = 0x02A0
 
+-- [PM020]
 abbrev pub offsetSize : (service : ℕ) → ℕ
 offsetSize service = pick (eqb service 0x53) 4 0
 
--- the bytes of type and handle
+-- the bytes of type and handle [PM020]
 abbrev pub typeSize : (body : List ℕ) → ℕ
 typeSize body = pick (eqb (u16At body 0) structureCode) 4 2
 
+-- [PM020]
 abbrev pub fieldsSize : (service : ℕ) (body : List ℕ) → ℕ
 fieldsSize service body = typeSize body + 2 + offsetSize service
 
+-- [PM020]
 unfoldable pub fieldsOf : (service : ℕ) (body : List ℕ) → Fields
 fieldsOf service body = record {
   type = u16At body 0;
@@ -56,9 +61,11 @@ fieldsOf service body = record {
 
 -- ---- a bit: any nonzero byte sets it; the offset of 0x53 is ignored
 
+-- [01]
 unfoldable pub withBit : (b k value : ℕ) → ℕ
 withBit b k value = pick (eqb value 0) (bitAnd b (255 - 2 ^ k)) (bitOr b (2 ^ k))
 
+-- [01]
 unfoldable pub writeBit : (memory : List ℕ) → Target → Fields → Stored
 writeBit memory g w =
     pick (eqb (w .type) BOOL)
@@ -71,12 +78,12 @@ writeBit memory g w =
 
 -- ---- a value
 
--- the type that the target has: its code, or 0x02A0 with its structure's handle
+-- the type that the target has: its code, or 0x02A0 with its structure's handle [01]
 unfoldable pub typeMatches : Tables → Target → Fields → Bool
 typeMatches t g w =
     pick (isStructure (g .type)) (both (eqb (w .type) structureCode) (eqb (w .handle) (handle (structureOf t (g .type))))) (eqb (w .type) (g .type))
 
--- 0x4D: all of it; 0x53: a part of it from the offset
+-- 0x4D: all of it; 0x53: a part of it from the offset [01]
 unfoldable pub writePart : (service : ℕ) → Target → Fields → (total : ℕ) → Stored
 writePart service g w total =
     pick (eqb service 0x53)
@@ -85,6 +92,7 @@ writePart service g w total =
     (pick (ltb (length (w .value)) total) (noStore tooShort)
     (pick (ltb total (length (w .value))) (noStore tooLong) (store (g .start) (w .value))))
 
+-- [01]
 unfoldable pub writeValue : Tables → (service : ℕ) → Target → Fields → Stored
 writeValue t service g w =
     pick (typeMatches t g w)
@@ -92,7 +100,7 @@ writeValue t service g w =
     (pick (ltb (g .count) (w .elements)) (noStore beyondEnd) (writePart service g w (w .elements * elementSize t (g .type)))))
     (noStore wrongType)
 
--- all fields are read before any is judged
+-- all fields are read before any is judged [01]
 unfoldable pub writeStored : Tables → (memory : List ℕ) (service : ℕ) → Target → (body : List ℕ) → Stored
 writeStored t memory service g body =
     pick (ltb (length body) (fieldsSize service body)) (noStore tooShort)
