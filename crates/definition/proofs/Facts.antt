@@ -4,7 +4,7 @@
 use mathlib.Core.Path.{_≡_}
 use mathlib.Core.Bool.{true}
 use mathlib.Core.List.{List, [], _∷_}
-use Prim.Native.Nat.{ℕ, zero, suc, _+_, _-_, _*_, _≤_, _<_, max}
+use Prim.Native.Nat.{ℕ, _+_, _-_, _*_, _≤_, _<_, max}
 use native.Mathlib.Nat.{mul-pos}
 use native.Mathlib.Omega.{arith}
 use lib.Dec.{ltb, leb, eqb}
@@ -12,11 +12,11 @@ use lib.ListN.{length, getD, drop}
 use lib.Seq.{getD-take, getD-drop}
 use borrow.Author.Tests.{ltb-true, leb-true, lt-ltb, eqb-true, eqb-false}
 use Rattle.laws.proofs.Chain.{by-test, pick-all}
-use Rattle.laws.proofs.Tests.{both-true, either-true, every-at, not-empty}
+use Rattle.laws.proofs.Tests.{both-true, either-true, every-at, everyFrom-at, not-empty}
 use Rattle.definition.specs.Tables.{Tables, Row, field, structureSize, templateStart, templateLength, structureAt, membersOf, memberType, memberLength, memberOffset, tagType, tagLengths, nonzero, lengthsOf, tagElements}
 use Rattle.definition.specs.Types.{isStructure, isDwordArray, elementSize, sizeIn, DWORD}
 use Rattle.definition.specs.Lookup.{tagAt}
-use Rattle.definition.specs.Valid.{isType, encoded, t1, t2, t3, memberFits, structureFits, structuresFit, t4, product, zerosLast, isBoolArray, tagFits, t5, tagEnd, t6, valid}
+use Rattle.definition.specs.Valid.{isType, encoded, t1, t2, t3, memberFits, structureFits, t4, product, zerosLast, isBoolArray, tagFits, t5, tagEnd, t6, valid}
 use Rattle.definition.specs.Resolve.{indexLengths}
 
 -- ---- types
@@ -71,17 +71,9 @@ module _ (t : Tables) (memory : ℕ) (ok : valid t memory ≡ true) where
       let from5 = both-true (t5 t) _ (from4 .1) in
       (from4 .0, from5 .0, from5 .1)
 
-  structure-from : (k : ℕ) (rows : List Row) (i j : ℕ) → structuresFit (t .structures) (t .members) (length (t .templates)) k rows ≡ true → i < length rows → j ≡ k + i
-      → structureFits (t .structures) (t .members) (length (t .templates)) j (getD rows i []) ≡ true
-  unfolding structuresFit
-  structure-from k [] i j e l q = absurd (omega arith)
-  structure-from k (r ∷ rows) zero j e l q = let z : j ≡ k = omega arith in rw z (both-true _ _ e .0)
-  structure-from k (r ∷ rows) (suc i) j e l q =
-      structure-from (suc k) rows i j (both-true (structureFits (t .structures) (t .members) (length (t .templates)) k r) _ e .1) (omega arith) (omega arith)
-
   structure-fits : (i : ℕ) → i < length (t .structures) → structureFits (t .structures) (t .members) (length (t .templates)) i (structureAt t i) ≡ true
   unfolding t4
-  structure-fits i h = structure-from 0 (t .structures) i i (both-true _ _ (last-three .0) .0) h (omega arith)
+  structure-fits i h = everyFrom-at (structureFits (t .structures) (t .members) (length (t .templates))) [] 0 (t .structures) i i (both-true _ _ (last-three .0) .0) h (omega arith)
 
   structure-some : (i : ℕ) → i < length (t .structures) → 0 < structureSize (structureAt t i)
   unfolding structureFits
@@ -94,11 +86,11 @@ module _ (t : Tables) (memory : ℕ) (ok : valid t memory ≡ true) where
     abbrev member : Row
     member = getD (membersOf t structure) j []
 
-    member-fits : memberFits (t .structures) i structure member ≡ true
+    member-fits : memberFits (t .structures) i (structureSize structure) member ≡ true
     unfolding structureFits
     member-fits =
         let e = both-true (leb (structureSize structure) 65535) _ (both-true (ltb 0 (structureSize structure)) _ (structure-fits i h) .1) .1 in
-        every-at (memberFits (t .structures) i structure) [] (membersOf t structure) j
+        every-at (memberFits (t .structures) i (structureSize structure)) [] (membersOf t structure) j
         (both-true (leb (templateStart structure + templateLength structure) (length (t .templates))) _ e .1) l
 
     pub member-type : isType (length (t .structures)) (memberType member) ≡ true

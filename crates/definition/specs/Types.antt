@@ -76,4 +76,4 @@ typeHeader structures type = pick (isStructure type) (0xA0 ∷ 0x02 ∷ le16 (ha
 -- the symbol type: the code, or 0x8000 OR template ID, OR number of lengths × 0x2000 (1756-PM020, Symbol object, attribute 2) [PM020]
 unfoldable pub symbolType : (structures : List Row) (type lengths : ℕ) → ℕ
 symbolType structures type lengths =
-    bitOr (pick (isStructure type) (bitOr 0x8000 (templateId (structureIn structures type))) type) (lengths * 0x2000)
+    bitOr (pick (isStructure type) (bitOr (templateId (structureIn structures type)) 0x8000) type) (lengths * 0x2000)

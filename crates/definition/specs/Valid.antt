@@ -2,11 +2,11 @@
 -- All of it is document 01's alone. A row's words have 32 bits by their type.
 use mathlib.Core.Bool.{Bool, not, true}
 use mathlib.Core.List.{List, [], _∷_}
-use Prim.Native.Nat.{ℕ, suc, _+_, _*_, _-_, max}
+use Prim.Native.Nat.{ℕ, _+_, _*_, _-_, max}
 use lib.Dec.{ltb, leb, eqb}
 use lib.ListN.{length}
 use Rattle.laws.specs.Pick.{pick, both, either}
-use Rattle.laws.specs.Tests.{every, pairs}
+use Rattle.laws.specs.Tests.{every, everyFrom, pairs}
 use Rattle.definition.specs.Names.{sameName}
 use Rattle.definition.specs.Tables.{Tables, Row, field, structureName, templateId, handle, structureSize, firstMember, memberCount, isAoi, templateStart, templateLength, membersIn, memberName, memberType, memberLength, memberOffset, memberBit, noBit, isHidden, isLocal, memberAccess, programName, tagScope, tagName, tagId, tagType, tagLengths, lengthsOf, tagElements, tagAccess, isAlias, tagOffset, otherScope, otherName, otherId, otherType}
 use Rattle.definition.specs.Types.{isAtomic, isStructure, sizeIn, DWORD}
@@ -98,26 +98,21 @@ t3 t =
 -- ---- T4
 
 -- all array elements counted, inside its structure; atomic or of an earlier structure; a bit of 0 to 7, or none
-unfoldable pub memberFits : (structures : List Row) (index : ℕ) (structure r : Row) → Bool
-memberFits structures i s r =
+unfoldable pub memberFits : (structures : List Row) (index size : ℕ) → Row → Bool
+memberFits structures i size r =
     both (isType i (memberType r))
-    (both (leb (memberOffset r + sizeIn structures (memberType r) * max 1 (memberLength r)) (structureSize s)) (leb (memberBit r) noBit))
+    (both (leb (memberOffset r + sizeIn structures (memberType r) * max 1 (memberLength r)) size) (leb (memberBit r) noBit))
 
 -- its template is a part of a store of so many bytes
 unfoldable pub structureFits : (structures members : List Row) (templates : ℕ) (index : ℕ) → Row → Bool
 structureFits structures members templates i r =
     both (ltb 0 (structureSize r)) (both (leb (structureSize r) 65535)
-    (both (leb (templateStart r + templateLength r) templates) (every (memberFits structures i r) (membersIn members r))))
+    (both (leb (templateStart r + templateLength r) templates) (every (memberFits structures i (structureSize r)) (membersIn members r))))
 
--- each structure with its index
-unfoldable pub structuresFit : (structures members : List Row) (templates : ℕ) (index : ℕ) → List Row → Bool
-structuresFit structures members templates i [] = true
-structuresFit structures members templates i (r ∷ rest) =
-    both (structureFits structures members templates i r) (structuresFit structures members templates (suc i) rest)
-
--- a member that no structure has is a record too: its bit is 0 to 7, or none
+-- each structure with its index; a member that no structure has is a record too: its bit is 0 to 7, or none
 unfoldable pub t4 : Tables → Bool
-t4 t = both (structuresFit (t .structures) (t .members) (length (t .templates)) 0 (t .structures)) (every (λ r. leb (memberBit r) noBit) (t .members))
+t4 t =
+    both (everyFrom (structureFits (t .structures) (t .members) (length (t .templates))) 0 (t .structures)) (every (λ r. leb (memberBit r) noBit) (t .members))
 
 -- ---- T5
 

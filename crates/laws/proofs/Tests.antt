@@ -10,7 +10,7 @@ use lib.ListN.{length, getD}
 use Rattle.laws.specs.Pick.{pick, both, either, isEmpty}
 use Rattle.laws.specs.Scan.{scan}
 use Rattle.laws.specs.Sorted.{All, Distinct}
-use Rattle.laws.specs.Tests.{every}
+use Rattle.laws.specs.Tests.{every, everyFrom}
 use Rattle.laws.proofs.Chain.{pick-all, both-off-2}
 
 pub both-true : (t u : Bool) → both t u ≡ true → (t ≡ true) × (u ≡ true)
@@ -43,6 +43,13 @@ module _ {A : Type 0} (p : A → Bool) where
   unfolding scan
   scan-all P hit miss i [] m h = m
   scan-all P hit miss i (x ∷ xs) m h = pick-all P (p x) (h i (omega arith)) (scan-all P hit miss (suc i) xs m (λ j l. h j (omega arith)))
+
+pub everyFrom-at : {A : Type 0} (p : ℕ → A → Bool) (d : A) (k : ℕ) (xs : List A) (i j : ℕ) → everyFrom p k xs ≡ true → i < length xs → j ≡ k + i
+    → p j (getD xs i d) ≡ true
+unfolding everyFrom
+everyFrom-at p d k [] i j e h q = absurd (omega arith)
+everyFrom-at p d k (x ∷ xs) zero j e h q = let z : j ≡ k = omega arith in rw z (both-true _ _ e .0)
+everyFrom-at p d k (x ∷ xs) (suc i) j e h q = everyFrom-at p d (suc k) xs i j (both-true (p k x) _ e .1) (omega arith) (omega arith)
 
 -- ---- a test among many, and what holds of each element
 

@@ -1,11 +1,17 @@
--- A test of each element of a list, of each two elements, and of some element.
+-- A test of each element of a list, also with its index, of each two elements, and of some element.
 use mathlib.Core.Bool.{Bool, true, false}
 use mathlib.Core.List.{List, [], _∷_}
+use Prim.Native.Nat.{ℕ, suc}
 use Rattle.laws.specs.Pick.{both, either}
 
 unfoldable pub every : {A : Type 0} → (A → Bool) → List A → Bool
 every p [] = true
 every p (x ∷ xs) = both (p x) (every p xs)
+
+-- with each element's index, the first counted as i
+unfoldable pub everyFrom : {A : Type 0} → (ℕ → A → Bool) → ℕ → List A → Bool
+everyFrom p i [] = true
+everyFrom p i (x ∷ xs) = both (p i x) (everyFrom p (suc i) xs)
 
 unfoldable pub some-of : {A : Type 0} → (A → Bool) → List A → Bool
 some-of p [] = false
