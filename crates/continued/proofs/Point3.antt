@@ -1,32 +1,29 @@
 -- Point 3 of document 01, for the definition itself: continued reads and continued pages, by `Talk` and `Listing`.
 -- Assumes nothing.
-use mathlib.Core.Path.{_≡_, refl, sym, _∙_}
-use mathlib.Core.Logic.{_≢_}
+use mathlib.Core.Path.{_≡_, refl}
 use mathlib.Core.Bool.{true, false}
-use mathlib.Core.List.{List, [], _∷_, _++_, map, map-append}
+use mathlib.Core.List.{List, [], _++_}
 use Prim.Native.Nat.{ℕ, _≤_, _<_}
 use native.Mathlib.Omega.{arith}
 use lib.Dec.{leb, eqb}
 use lib.ListN.{length, drop, length-take, length-drop}
-use borrow.Author.Tests.{leb-true, lt-leb, eqb-true, eq-eqb}
-use Rattle.laws.specs.Sorted.{All, Distinct}
-use Rattle.laws.specs.Tests.{pairs, every}
-use Rattle.laws.proofs.Chain.{by-test, pick-all}
-use Rattle.laws.proofs.Sorted.{All-sort, Sorted-sort}
-use Rattle.laws.proofs.Tests.{both-none, among, every-All, All-of-map, Distinct-append}
+use borrow.Author.Tests.{leb-true, lt-leb}
+use Rattle.laws.proofs.Chain.{pick-all}
+use Rattle.laws.proofs.Tests.{both-none, among, every-All}
 use Rattle.definition.specs.Bytes.{le16, le32}
 use Rattle.definition.specs.Reply.{answered}
-use Rattle.definition.specs.Tables.{Tables, Flags, Row, noBit, tagScope, tagId}
-use Rattle.definition.specs.Valid.{t1, idsDiffer, t3, valid}
+use Rattle.definition.specs.Tables.{Tables, Flags, noBit}
+use Rattle.definition.specs.Valid.{t1, valid}
 use Rattle.definition.specs.Resolve.{Resolved, found, turned}
 use Rattle.definition.specs.Access.{tagTarget}
 use Rattle.definition.specs.Read.{Selection, selectedBytes, granted, askTarget, sendFrom, readReply}
 use Rattle.definition.specs.Fragment.{fragmentReply}
-use Rattle.definition.specs.Page.{Entry, idOf, pageReply}
-use Rattle.definition.specs.Symbols.{Symbol, tagSymbol, otherSymbol, inScopeOnly, symbols, entryOf, listing, due, isListed, listSymbols}
+use Rattle.definition.specs.Page.{pageReply}
+use Rattle.definition.specs.Symbols.{listing, due, isListed, listSymbols}
 use Rattle.definition.specs.Answer.{onTarget, tagService, answer}
 use Rattle.definition.specs.Entry.{Entered, replied, lay, entry}
 use Rattle.definition.proofs.Enters.{Enters as Ways, stopped, taken, enters}
+use Rattle.definition.proofs.Listing.{listing-sorted, listing-some}
 use Rattle.definition.proofs.Selected.{granted-some}
 use Rattle.definition.proofs.Stored.{memory-keeps-its-length}
 use Rattle.continued.specs.Reads.{Memory, Sent, Turn, Replied, talk, Fair, Delivered}
@@ -94,65 +91,14 @@ continued-reads t f path elements s m turns r fair =
 
 -- ---- pages
 
--- T3, of two rows of one scope
-ids-differ : (a b : Row) → idsDiffer a b ≡ true → tagScope a ≡ tagScope b → tagId a ≢ tagId b
-unfolding idsDiffer
-ids-differ a b e s i = let n = rw (eq-eqb _ _ s, eq-eqb _ _ i) at e in let z : _≡_ {A = ℕ} 0 1 = cc n in omega arith
-
-abbrev Keeps-id : (Row → Symbol) → Type 0
-Keeps-id make = (r : Row) → make r .id ≡ tagId r
-
-module _ (scope : ℕ) (attributes : List ℕ) where
-  abbrev entries : (make : Row → Symbol) → List Row → List Entry
-  entries make rows = map (entryOf attributes) (inScopeOnly tagScope make scope rows)
-
-  All-entries : (make : Row → Symbol) (P : Entry → Type 0) (rows : List Row)
-      → All (λ r. tagScope r ≡ scope → P (entryOf attributes (make r))) rows → All P (entries make rows)
-  unfolding inScopeOnly
-  All-entries make P [] a = tt
-  All-entries make P (r ∷ rows) a =
-      let rest = All-entries make P rows (a .1) in
-      by-test (eqb (tagScope r) scope) (λ e. rw e (a .0 (eqb-true _ _ e), rest)) (λ e. rw e rest)
-
-  -- entries of rows of the scope against those of other rows
-  module _ (make other : Row → Symbol) (made : Keeps-id make) (others : Keeps-id other) where
-    apart : (r : Row) (rows : List Row) → every (idsDiffer r) rows ≡ true → tagScope r ≡ scope
-        → All (λ e. idOf (entryOf attributes (make r)) ≢ idOf e) (entries other rows)
-    unfolding entryOf
-    apart r rows e s =
-        All-entries other _ rows (every-All (idsDiffer r) _ (λ q d u. rw (made r, others q) (ids-differ r q d (s ∙ sym u))) rows e)
-
-    all-apart : (rs rows : List Row) → every (λ r. every (idsDiffer r) rows) rs ≡ true
-        → All (λ x. All (λ y. idOf x ≢ idOf y) (entries other rows)) (entries make rs)
-    all-apart rs rows e = All-entries make _ rs (every-All _ _ (λ r. apart r rows) rs e)
-
-  distinct-entries : (make : Row → Symbol) → Keeps-id make → (rows : List Row) → pairs idsDiffer rows ≡ true
-      → Distinct idOf (entries make rows)
-  unfolding inScopeOnly pairs
-  distinct-entries make made [] e = tt
-  distinct-entries make made (r ∷ rows) e =
-      let rest = distinct-entries make made rows (among (pairs idsDiffer rows) _ e (λ n. rw (n, both-none))) in
-      by-test (eqb (tagScope r) scope)
-      (λ h. rw h (apart make make made made r rows (among (every (idsDiffer r) rows) _ e (λ n. rw n)) (eqb-true _ _ h), rest)) (λ h. rw h rest)
-
-  distinct : (t : Tables) (memory : ℕ) → valid t memory ≡ true → Distinct idOf (map (entryOf attributes) (symbols t scope))
-  unfolding symbols valid t3 tagSymbol otherSymbol
-  distinct t memory v =
-      rw map-append (Distinct-append idOf (entries (tagSymbol t) (t .tags)) (entries (otherSymbol t) (t .others))
-      (distinct-entries (tagSymbol t) (λ r. refl) (t .tags) (among (pairs idsDiffer (t .tags)) _ v (λ e. simp (e, both-none))))
-      (distinct-entries (otherSymbol t) (λ r. refl) (t .others) (among (pairs idsDiffer (t .others)) _ v (λ e. simp (e, both-none))))
-      (all-apart (tagSymbol t) (otherSymbol t) (λ r. refl) (λ r. refl) (t .tags) (t .others)
-      (among (every (λ r. every (idsDiffer r) (t .others)) (t .tags)) _ v (λ e. simp (e, both-none)))))
-
 pub continued-pages : (t : Tables) (f : Flags) (scope : ℕ) (attributes : List ℕ) (first : ℕ) (m : Memory) (turns : List Turn)
     → Listable t m attributes
     → FairPages (respond t f) (Pages t scope attributes) (due t scope attributes first) first m [] turns
     → Listed (due t scope attributes first) (talk (respond t f) 0 m [] turns)
-unfolding due listing entryOf listSymbols
+unfolding due listSymbols
 continued-pages t f scope attributes first m turns r fair =
     pages-deliver (respond t f) (Pages t scope attributes) 0x55 (listing t scope attributes)
-    (Sorted-sort idOf _ (distinct scope attributes t (length m) (r .tables)))
-    (All-sort idOf _ _ (All-of-map (entryOf attributes) _ (λ s. omega arith) (symbols t scope)))
+    (listing-sorted scope attributes t (length m) (r .tables)) (listing-some scope attributes t)
     first law m turns fair
   where
     law : (x : Sent) (m : Memory) (id : ℕ) → Pages t scope attributes (x .request) id → Replied (respond t f x m .outcome)

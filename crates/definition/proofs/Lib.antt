@@ -3,6 +3,7 @@ pub mod Cut
 pub mod Enters
 pub mod Facts
 pub mod Inside
+pub mod Listing
 pub mod Replies
 pub mod Selected
 pub mod Stored

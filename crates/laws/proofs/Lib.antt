@@ -7,3 +7,4 @@ pub mod Items
 pub mod Put
 pub mod Sorted
 pub mod Tests
+pub mod Least
