@@ -1,12 +1,12 @@
 -- The search for the least key not below a bound finds the next of the sorted list, and behind it the bound is its key plus one.
 -- Assumes nothing.
-use mathlib.Core.Path.{_≡_, refl, _∙_}
-use mathlib.Core.List.{List, [], _∷_}
+use mathlib.Core.Path.{_≡_, refl, ap, _∙_}
+use mathlib.Core.List.{List, [], _∷_, _++_}
 use mathlib.Core.Option.{Option, none, some}
 use Prim.Native.Nat.{ℕ, suc, _≤_, _<_}
 use native.Mathlib.Omega.{arith}
 use lib.Dec.{leb, ltb}
-use borrow.Author.Tests.{leb-true, leb-false, ltb-true, lt-leb}
+use borrow.Author.Tests.{leb-true, leb-false, ltb-true, ltb-false, lt-leb, lt-ltb, le-ltb}
 use Rattle.laws.specs.Pick.{pick}
 use Rattle.laws.specs.Sorted.{All, insert, sort, from, nearer, least, Sorted, headOf}
 use Rattle.laws.proofs.Chain.{by-test}
@@ -62,3 +62,26 @@ module _ {A : Type 0} (key : A → ℕ) where
     where
       after-all : (n : ℕ) → n ≤ suc (key y) → from key n ys ≡ ys
       after-all n l = from-all key n ys (All-map (λ z. key y < key z) (λ z. n ≤ key z) (λ z k. omega arith) ys (o .0))
+
+  -- the least of two lists is the nearer of both
+  abbrev pub joinLeast : Option A → Option A → Option A
+  joinLeast none o = o
+  joinLeast (some x) o = some (nearer key x o)
+
+  nearer-join : (x : A) (a b : Option A) → nearer key x (joinLeast a b) ≡ nearer key (nearer key x a) b
+  nearer-join x none b = refl
+  nearer-join x (some y) none = refl
+  nearer-join x (some y) (some z) =
+      by-test (ltb (key x) (key y))
+      (λ p. by-test (ltb (key y) (key z))
+      (λ q. rw (q, p, lt-ltb (key x) (key z) (omega (arith, ltb-true (key x) (key y) p, ltb-true (key y) (key z) q))))
+      (λ q. rw (q, p)))
+      (λ p. by-test (ltb (key y) (key z)) (λ q. rw (q, p, q))
+      (λ q. rw (q, p, q, le-ltb (key x) (key z) (omega (arith, ltb-false (key x) (key y) p, ltb-false (key y) (key z) q)))))
+
+  pub least-append : (bound : ℕ) (xs ys : List A) → least key bound (xs ++ ys) ≡ joinLeast (least key bound xs) (least key bound ys)
+  unfolding least
+  least-append bound [] ys = refl
+  least-append bound (x ∷ xs) ys =
+      by-test (leb bound (key x))
+      (λ e. rw (e, least-append bound xs ys) (ap some (nearer-join x (least key bound xs) (least key bound ys)))) (λ e. rw e (least-append bound xs ys))
