@@ -59,7 +59,7 @@ selected-few t s m v =
 
 -- a granted read, at an offset below the number of selected bytes
 granted-reply : (t : Tables) (m : Memory) (x : Resolved) (elements offset limit : ℕ) (s : Selection)
-    → askTarget t x elements ≡ granted s → elements < 65536 → offset < 4294967296 → offset < length (selectedBytes s m)
+    → askTarget (t .structures) x elements ≡ granted s → elements < 65536 → offset < 4294967296 → offset < length (selectedBytes s m)
     → onTarget t m 0x52 x (le16 elements ++ le32 offset) limit ≡ answered (fragmentReply 0x52 (s .header) (drop offset (selectedBytes s m)) limit) m
 unfolding readReply sendFrom
 granted-reply t m (turned status) elements offset limit s e a b l = absurd (let z : _≡_ {A = ℕ} 0 1 = cc in omega arith)

@@ -40,7 +40,7 @@ pub record Readable (t : Tables) (f : Flags) (m : Memory) (path : List ℕ) (ele
   pub encodes : Encodes path decoded
   pub tag-path : isTagPath decoded ≡ true
   pub count : elements < 65536
-  pub grants : askTarget t (tagTarget t f false decoded) elements ≡ granted s
+  pub grants : askTarget (t .structures) (tagTarget t f false decoded) elements ≡ granted s
 
 abbrev pub Reads : (path : List ℕ) (elements : ℕ) (request : List ℕ) (offset : ℕ) → Type 0
 Reads path elements request offset = request ≡ readRequest path elements offset

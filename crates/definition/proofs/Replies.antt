@@ -17,7 +17,7 @@ use Rattle.definition.specs.Reply.{Status, general, extended, codeOf, re
 use Rattle.definition.specs.Segment.{Segment, nameOf}
 use Rattle.definition.specs.Request.{Request, malformed, request, requestOf, Object, object, noObject, objectOf, isTagPath, symbolInstance}
 use Rattle.definition.specs.Tables.{Tables, Flags, Row, templateStart, templateLength, structureAt, membersOf, isLocal, noBit, takesInstances, takesEnvelopes}
-use Rattle.definition.specs.Types.{BOOL, isStructure, structureOf, elementSize, typeHeader}
+use Rattle.definition.specs.Types.{BOOL, isStructure, structureOf, sizeIn, typeHeader}
 use Rattle.definition.specs.Lookup.{marked, structureWithTemplate, programNamed, tagNamed, tagWithId, otherWithId, memberNamed}
 use Rattle.definition.specs.Names.{isProgramName, afterPrefix}
 use Rattle.definition.specs.Resolve.{Target, Resolved, found, turned, Move, indexes, member, stray, moves, allBelow, index, memberOf, memberFound, visibleMember, walk, moveTo, andThen, fromTag, byInstance, byName, inScope, inProgram, scopedBy, resolve, wholeTag}
@@ -83,10 +83,10 @@ abbrev AskedWell : Asked → Type 0
 AskedWell (granted s) = length (s .header) ≤ 4
 AskedWell (notGranted status) = Known status
 
-ask-well : (t : Tables) (g : Target) (elements : ℕ) → AskedWell (ask t g elements)
+ask-well : (structures : List Row) (g : Target) (elements : ℕ) → AskedWell (ask structures g elements)
 unfolding ask selection isStatus some-of
-ask-well t g elements =
-    let h = header-short (t .structures) (g .type) in
+ask-well structures g elements =
+    let h = header-short structures (g .type) in
     pick-all AskedWell (eqb (g .bit) 8)
     (pick-all AskedWell (eqb elements 0) refl (pick-all AskedWell (ltb (g .count) elements) refl h))
     (pick-all AskedWell (eqb elements 1) h refl)
@@ -97,11 +97,11 @@ proper-send limit service (granted s) memory offset h =
     pick-all (Proper limit) (leb (length (selectedBytes s memory)) offset) (proper-fail limit service _ refl) (proper-fragment limit service _ _ h)
 proper-send limit service (notGranted status) memory offset k = proper-fail limit service status k
 
-proper-read : (t : Tables) (memory : List ℕ) (service : ℕ) (g : Target) (body : List ℕ) (limit : ℕ) → Proper limit (readReply t memory service g body limit)
+proper-read : (structures : List Row) (memory : List ℕ) (service : ℕ) (g : Target) (body : List ℕ) (limit : ℕ) → Proper limit (readReply structures memory service g body limit)
 unfolding readReply isStatus some-of
-proper-read t memory service g body limit =
+proper-read structures memory service g body limit =
     pick-all (Proper limit) (ltb (length body) (pick (isFragmented service) 6 2)) (proper-fail limit service _ refl)
-    (proper-send limit service (ask t g (u16At body 0)) memory (pick (isFragmented service) (u32At body 2) 0) (ask-well t g (u16At body 0)))
+    (proper-send limit service (ask structures g (u16At body 0)) memory (pick (isFragmented service) (u32At body 2) 0) (ask-well structures g (u16At body 0)))
 
 -- ---- writes
 
@@ -130,19 +130,19 @@ part-well service g w total =
     (pick-all StoresWell (leb total (w .offset)) refl (pick-all StoresWell (ltb total (w .offset + length (w .value))) refl tt))
     (pick-all StoresWell (ltb (length (w .value)) total) refl (pick-all StoresWell (ltb total (length (w .value))) refl tt))
 
-value-well : (t : Tables) (service : ℕ) (g : Target) (w : Fields) → StoresWell (writeValue t service g w)
+value-well : (structures : List Row) (service : ℕ) (g : Target) (w : Fields) → StoresWell (writeValue structures service g w)
 unfolding writeValue isStatus some-of
-value-well t service g w =
-    pick-all StoresWell (typeMatches t g w)
+value-well structures service g w =
+    pick-all StoresWell (typeMatches structures g w)
     (pick-all StoresWell (eqb (w .elements) 0) refl
-    (pick-all StoresWell (ltb (g .count) (w .elements)) refl (part-well service g w (w .elements * elementSize t (g .type))))) refl
+    (pick-all StoresWell (ltb (g .count) (w .elements)) refl (part-well service g w (w .elements * sizeIn structures (g .type))))) refl
 
-write-well : (t : Tables) (memory : List ℕ) (service : ℕ) (g : Target) (body : List ℕ) → StoresWell (writeStored t memory service g body)
+write-well : (structures : List Row) (memory : List ℕ) (service : ℕ) (g : Target) (body : List ℕ) → StoresWell (writeStored structures memory service g body)
 unfolding writeStored isStatus some-of
-write-well t memory service g body =
+write-well structures memory service g body =
     let w = fieldsOf service body in
     pick-all StoresWell (ltb (length body) (fieldsSize service body)) refl
-    (pick-all StoresWell (eqb (g .bit) noBit) (value-well t service g w) (bit-well memory g w))
+    (pick-all StoresWell (eqb (g .bit) noBit) (value-well structures service g w) (bit-well memory g w))
 
 proper-store : (limit service : ℕ) (s : Stored) (memory : List ℕ) → StoresWell s → Proper limit (storeAnswer service s memory .reply)
 unfolding isStatus some-of
@@ -222,37 +222,37 @@ target-well t f writes path = then-well (resolve t f path) (permitted t f writes
 part-short : (s : List ℕ) (start n : ℕ) → length (part s start n) ≤ n
 part-short s start n = simp length-take (omega arith)
 
-proper-send-template : (t : Tables) (r : Row) (service offset due limit : ℕ) → Proper limit (sendTemplate t r service offset due limit)
+proper-send-template : (templates : List ℕ) (r : Row) (service offset due limit : ℕ) → Proper limit (sendTemplate templates r service offset due limit)
 unfolding sendTemplate isStatus some-of
-proper-send-template t r service offset due limit =
+proper-send-template templates r service offset due limit =
     let from = templateStart r + offset in
     by-test (leb due (limit - 4))
-    (λ e. rw e (proper-reply limit service _ _ refl (omega (arith, leb-true due (limit - 4) e, part-short (t .templates) from due))))
+    (λ e. rw e (proper-reply limit service _ _ refl (omega (arith, leb-true due (limit - 4) e, part-short templates from due))))
     (λ e. rw e (pick-all (Proper limit) (eqb (limit - 4) 0) (proper-fail limit service _ refl)
-    (proper-reply limit service _ _ refl (omega (arith, part-short (t .templates) from (limit - 4))))))
+    (proper-reply limit service _ _ refl (omega (arith, part-short templates from (limit - 4))))))
 
-proper-template : (t : Tables) (r : Row) (service : ℕ) (body : List ℕ) (limit : ℕ) → Proper limit (templateReply t r service body limit)
+proper-template : (templates : List ℕ) (r : Row) (service : ℕ) (body : List ℕ) (limit : ℕ) → Proper limit (templateReply templates r service body limit)
 unfolding templateReply isStatus some-of
-proper-template t r service body limit =
+proper-template templates r service body limit =
     let offset = u32At body 0 in
     let due = min (u16At body 4) (templateLength r - offset) in
     pick-all (Proper limit) (ltb (length body) 6) (proper-fail limit service _ refl)
-    (pick-all (Proper limit) (ltb (templateLength r) offset) (proper-fail limit service _ refl) (proper-send-template t r service offset due limit))
+    (pick-all (Proper limit) (ltb (templateLength r) offset) (proper-fail limit service _ refl) (proper-send-template templates r service offset due limit))
 
 proper-read-template : (t : Tables) (service : ℕ) (i : Option ℕ) (body : List ℕ) (limit : ℕ) → Proper limit (readTemplate t service i body limit)
 unfolding isStatus some-of
 proper-read-template t service none body limit = proper-fail limit service _ refl
-proper-read-template t service (some i) body limit = proper-template t (structureAt t i) service body limit
+proper-read-template t service (some i) body limit = proper-template (t .templates) (structureAt t i) service body limit
 
 headed-list : (service : ℕ) (value : ℕ → Option (List ℕ)) (list : Option (List ℕ)) → Headed (listReply service value list)
 unfolding isStatus some-of
 headed-list service value none = headed-reply service _ _ refl
 headed-list service value (some list) = headed-reply service _ _ refl
 
-headed-structure : (t : Tables) (service : ℕ) (i : Option ℕ) (body : List ℕ) → Headed (structureList t service i body)
+headed-structure : (structures : List Row) (service : ℕ) (i : Option ℕ) (body : List ℕ) → Headed (structureList structures service i body)
 unfolding isStatus some-of
-headed-structure t service none body = headed-reply service _ _ refl
-headed-structure t service (some i) body = headed-list service _ (counted body)
+headed-structure structures service none body = headed-reply service _ _ refl
+headed-structure structures service (some i) body = headed-list service _ (counted body)
 
 -- item 20 caps what it is put around
 proper-capped : (service limit : ℕ) (r : List ℕ) → Headed r → Proper limit (capped service limit r)
@@ -292,9 +292,9 @@ proper-target : (t : Tables) (memory : List ℕ) (service : ℕ) (r : Resolved) 
     → Proper limit (onTarget t memory service r body limit .reply)
 proper-target t memory service (turned status) body limit w = proper-fail limit service status w
 proper-target t memory service (found g) body limit w =
-    pick-all (λ (a : Answer). Proper limit (a .reply)) (isRead service) (proper-read t memory service g body limit)
+    pick-all (λ (a : Answer). Proper limit (a .reply)) (isRead service) (proper-read (t .structures) memory service g body limit)
     (pick-all (λ (a : Answer). Proper limit (a .reply)) (eqb service 0x4E) (proper-store limit service (maskedStored memory g body) memory (masked-well memory g body))
-    (proper-store limit service (writeStored t memory service g body) memory (write-well t memory service g body)))
+    (proper-store limit service (writeStored (t .structures) memory service g body) memory (write-well (t .structures) memory service g body)))
 
 headed-otherwise : (service : ℕ) (o : Object) → Headed (otherwise service o)
 unfolding isStatus some-of
@@ -318,7 +318,7 @@ module _ (P : Answer → Type 0) (t : Tables) (f : Flags) (memory : List ℕ) (s
       (still _ (proper-capped service limit _ (pick-all Headed (either (isSome (otherWithId t 0 i)) (isSome (tagWithId t 0 i)))
       (headed-list service _ (counted body)) (headed-reply service _ _ refl))))
       (pick-all P (both (eqb c 0x6C) (eqb service 0x03))
-      (still _ (proper-capped service limit _ (headed-structure t service (structureWithTemplate t i) body)))
+      (still _ (proper-capped service limit _ (headed-structure (t .structures) service (structureWithTemplate t i) body)))
       (pick-all P (both (eqb c 0x6C) (eqb service 0x4C))
       (still _ (proper-read-template t service (structureWithTemplate t i) body limit)) service-all))
 

@@ -31,14 +31,14 @@ AskedWithin memory (granted s) = Within memory s
 AskedWithin memory (notGranted status) = Unit {0}
 
 selection-within : (t : Tables) (memory : ℕ) (g : Target) (elements : ℕ) → Lies t memory g → 0 < elements → elements ≤ g .count
-    → Within memory (selection t g elements)
+    → Within memory (selection (t .structures) g elements)
 unfolding selection
 selection-within t memory g elements l some few = record {
   some-bytes = mul-pos some (l .some-bytes);
   inside = omega (arith, mul-le-mul-right (elementSize t (g .type)) few);
 }
 
-ask-within : (t : Tables) (memory : ℕ) (g : Target) (elements : ℕ) → Lies t memory g → AskedWithin memory (ask t g elements)
+ask-within : (t : Tables) (memory : ℕ) (g : Target) (elements : ℕ) → Lies t memory g → AskedWithin memory (ask (t .structures) g elements)
 unfolding ask
 ask-within t memory g elements l =
     let within = selection-within t memory g elements l in
@@ -49,12 +49,12 @@ ask-within t memory g elements l =
     (λ e. pick-by (AskedWithin memory) (eqb elements 1)
     (λ o. within (omega (arith, eqb-true elements 1 o)) (omega (arith, eqb-true elements 1 o))) (λ o. tt))
 
-target-within : (t : Tables) (memory : ℕ) (r : Resolved) (elements : ℕ) → OnFound (Lies t memory) r → AskedWithin memory (askTarget t r elements)
+target-within : (t : Tables) (memory : ℕ) (r : Resolved) (elements : ℕ) → OnFound (Lies t memory) r → AskedWithin memory (askTarget (t .structures) r elements)
 target-within t memory (found g) elements l = ask-within t memory g elements l
 target-within t memory (turned status) elements l = tt
 
 module _ (t : Tables) (f : Flags) (path : List Segment) (elements : ℕ) (s : Selection) (memory : List ℕ)
-    (ok : valid t (length memory) ≡ true) (given : askTarget t (tagTarget t f false path) elements ≡ granted s) where
+    (ok : valid t (length memory) ≡ true) (given : askTarget (t .structures) (tagTarget t f false path) elements ≡ granted s) where
   within : Within (length memory) s
   within = rw given at (target-within t (length memory) (tagTarget t f false path) elements (target-lies t f (length memory) ok false path))
 

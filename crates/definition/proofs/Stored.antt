@@ -50,10 +50,10 @@ part-in-memory n service g w total h =
     (pick-by (InMemory n) (ltb total (length (w .value))) (λ e. tt) (λ e. omega (arith, ltb-false total (length (w .value)) e))))
 
 module _ (t : Tables) (n : ℕ) (g : Target) (l : Lies t n g) where
-  value-in-memory : (service : ℕ) (w : Fields) → InMemory n (writeValue t service g w)
+  value-in-memory : (service : ℕ) (w : Fields) → InMemory n (writeValue (t .structures) service g w)
   unfolding writeValue
   value-in-memory service w =
-      pick-all (InMemory n) (typeMatches t g w)
+      pick-all (InMemory n) (typeMatches (t .structures) g w)
       (pick-all (InMemory n) (eqb (w .elements) 0) tt
       (pick-by (InMemory n) (ltb (g .count) (w .elements)) (λ e. tt)
       (λ e. part-in-memory n service g w (w .elements * elementSize t (g .type))
@@ -71,7 +71,7 @@ module _ (t : Tables) (n : ℕ) (g : Target) (l : Lies t n g) where
       tt)
       tt
 
-  pub stored-in-memory : (memory : List ℕ) (service : ℕ) (body : List ℕ) → InMemory n (writeStored t memory service g body)
+  pub stored-in-memory : (memory : List ℕ) (service : ℕ) (body : List ℕ) → InMemory n (writeStored (t .structures) memory service g body)
   unfolding writeStored
   stored-in-memory memory service body =
       pick-all (InMemory n) (ltb (length body) (fieldsSize service body)) tt
@@ -121,7 +121,7 @@ module _ (t : Tables) (f : Flags) (memory : List ℕ) (ok : valid t (length memo
   target-keeps service (found g) body limit l =
       pick-all Same (isRead service) refl
       (pick-all Same (eqb service 0x4E) (store-keeps service memory (maskedStored memory g body) (masked-in-memory t memory g body l))
-      (store-keeps service memory (writeStored t memory service g body) (stored-in-memory t (length memory) g l memory service body)))
+      (store-keeps service memory (writeStored (t .structures) memory service g body) (stored-in-memory t (length memory) g l memory service body)))
 
   plain-keeps : (service : ℕ) (path : List Segment) (body : List ℕ) (limit : ℕ) → Same (plain t f memory service path body limit)
   unfolding tagService

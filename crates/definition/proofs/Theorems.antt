@@ -75,7 +75,7 @@ target-honest t memory service (turned status) body limit = λ n. refl
 target-honest t memory service (found g) body limit =
     pick-all (Honest memory) (isRead service) (λ n. refl)
     (pick-all (Honest memory) (eqb service 0x4E) (store-honest service (maskedStored memory g body) memory)
-    (store-honest service (writeStored t memory service g body) memory))
+    (store-honest service (writeStored (t .structures) memory service g body) memory))
 
 -- a write is no envelope
 write-alone : (service : ℕ) → isWrite service ≡ true → eqb service 0x0A ≡ false

@@ -29,7 +29,7 @@ capped service limit r = pick (leb (length r) limit) r (fail service tooLarge)
 -- items 10 and 12: 0x05 for an unknown template ID
 abbrev pub readTemplate : Tables → (service : ℕ) → Option ℕ → (body : List ℕ) (limit : ℕ) → List ℕ
 readTemplate t service none body limit = fail service pathUnknown
-readTemplate t service (some i) body limit = templateReply t (structureAt t i) service body limit
+readTemplate t service (some i) body limit = templateReply (t .templates) (structureAt t i) service body limit
 
 -- ---- items 14 to 18: the tag services
 
@@ -45,9 +45,9 @@ isTagService service = either (isRead service) (isWrite service)
 abbrev pub onTarget : Tables → (memory : List ℕ) (service : ℕ) → Resolved → (body : List ℕ) (limit : ℕ) → Answer
 onTarget t memory service (turned status) body limit = answered (fail service status) memory
 onTarget t memory service (found g) body limit =
-    pick (isRead service) (answered (readReply t memory service g body limit) memory)
+    pick (isRead service) (answered (readReply (t .structures) memory service g body limit) memory)
     (pick (eqb service 0x4E) (storeAnswer service (maskedStored memory g body) memory)
-    (storeAnswer service (writeStored t memory service g body) memory))
+    (storeAnswer service (writeStored (t .structures) memory service g body) memory))
 
 unfoldable pub tagService : Tables → Flags → (memory : List ℕ) (service : ℕ) (path : List Segment) (body : List ℕ) (limit : ℕ) → Answer
 tagService t f memory service path body limit = onTarget t memory service (tagTarget t f (isWrite service) path) body limit
@@ -72,7 +72,7 @@ byObject t f memory service (object c i) path body limit =
     pick (both (eqb c 0x6B) (both (eqb service 0x03) (not (f .micro800))))
     (answered (capped service limit (symbolAttributes t service i body)) memory)
     (pick (both (eqb c 0x6C) (eqb service 0x03))
-    (answered (capped service limit (structureAttributes t service i body)) memory)
+    (answered (capped service limit (structureAttributes (t .structures) service i body)) memory)
     (pick (both (eqb c 0x6C) (eqb service 0x4C))
     (answered (readTemplate t service (structureWithTemplate t i) body limit) memory)
     (byService t f memory service path body limit)))

@@ -9,8 +9,8 @@ use lib.ListN.{length, getD}
 use Rattle.laws.specs.Pick.{pick, either, isSome}
 use Rattle.definition.specs.Bytes.{le16, le32, counted}
 use Rattle.definition.specs.Reply.{reply, fail, success, pathUnknown, tooShort}
-use Rattle.definition.specs.Tables.{Tables, Row, handle, memberCount, templateLength, structureSize, structureAt, otherName}
-use Rattle.definition.specs.Lookup.{programOf, tagWithId, otherWithId, structureWithTemplate}
+use Rattle.definition.specs.Tables.{Tables, Row, handle, memberCount, templateLength, structureSize, otherName}
+use Rattle.definition.specs.Lookup.{programOf, tagWithId, otherWithId, templateIn}
 
 -- ---- the reply: the count, then for each number itself, 0x0000 and the value, or itself and 0x0014 if unknown
 
@@ -40,13 +40,13 @@ structureAttribute r a =
     (pick (eqb a 5) (some (le32 (structureSize r))) none)))
 
 -- of the structure that a template ID means; 0x05 for an unknown one [01]
-abbrev pub structureList : Tables → (service : ℕ) → Option ℕ → (body : List ℕ) → List ℕ
-structureList t service none body = fail service pathUnknown
-structureList t service (some i) body = listReply service (structureAttribute (structureAt t i)) (counted body)
+abbrev pub structureList : (structures : List Row) (service : ℕ) → Option ℕ → (body : List ℕ) → List ℕ
+structureList structures service none body = fail service pathUnknown
+structureList structures service (some i) body = listReply service (structureAttribute (getD structures i [])) (counted body)
 
 -- [01]
-unfoldable pub structureAttributes : Tables → (service id : ℕ) (body : List ℕ) → List ℕ
-structureAttributes t service id body = structureList t service (structureWithTemplate t id) body
+unfoldable pub structureAttributes : (structures : List Row) (service id : ℕ) (body : List ℕ) → List ℕ
+structureAttributes structures service id body = structureList structures service (templateIn structures id) body
 
 -- ---- class 0x6B: 0x0D only, for an other symbol named as a known program: 03 20 68 25 00 and 0x5AD0 plus the program's position
 

@@ -8,8 +8,8 @@ use lib.ListN.{length, getD, drop}
 use Rattle.laws.specs.Pick.{pick}
 use Rattle.definition.specs.Bytes.{u16At, u32At, part}
 use Rattle.definition.specs.Reply.{Status, fail, tooShort, noElements, beyondEnd}
-use Rattle.definition.specs.Tables.{Tables, noBit}
-use Rattle.definition.specs.Types.{elementSize, typeHeader}
+use Rattle.definition.specs.Tables.{Row, noBit}
+use Rattle.definition.specs.Types.{sizeIn, typeHeader}
 use Rattle.definition.specs.Resolve.{Target, Resolved, found, turned}
 use Rattle.definition.specs.Fragment.{fragmentReply}
 
@@ -33,25 +33,25 @@ pub data Asked : Type 0 where
   notGranted : Status → Asked
 
 -- element count × element size bytes from the target's first [PM020]
-unfoldable pub selection : Tables → Target → (elements : ℕ) → Selection
-selection t g elements = record {
+unfoldable pub selection : (structures : List Row) → Target → (elements : ℕ) → Selection
+selection structures g elements = record {
   start = g .start;
-  size = elements * elementSize t (g .type);
+  size = elements * sizeIn structures (g .type);
   bit = g .bit;
-  header = typeHeader (t .structures) (g .type);
+  header = typeHeader structures (g .type);
 }
 
 -- all of item 16's refusals that depend neither on the offset nor on missing data [01]
-unfoldable pub ask : Tables → Target → (elements : ℕ) → Asked
-ask t g elements =
+unfoldable pub ask : (structures : List Row) → Target → (elements : ℕ) → Asked
+ask structures g elements =
     pick (eqb (g .bit) noBit)
-    (pick (eqb elements 0) (notGranted noElements) (pick (ltb (g .count) elements) (notGranted beyondEnd) (granted (selection t g elements))))
-    (pick (eqb elements 1) (granted (selection t g elements)) (notGranted beyondEnd))
+    (pick (eqb elements 0) (notGranted noElements) (pick (ltb (g .count) elements) (notGranted beyondEnd) (granted (selection structures g elements))))
+    (pick (eqb elements 1) (granted (selection structures g elements)) (notGranted beyondEnd))
 
 -- a read of a path's target, found or not [01]
-abbrev pub askTarget : Tables → Resolved → (elements : ℕ) → Asked
-askTarget t (found g) elements = ask t g elements
-askTarget t (turned status) elements = notGranted status
+abbrev pub askTarget : (structures : List Row) → Resolved → (elements : ℕ) → Asked
+askTarget structures (found g) elements = ask structures g elements
+askTarget structures (turned status) elements = notGranted status
 
 -- the offset is checked last: at or past the length is beyond the end [01]
 unfoldable pub sendFrom : (service : ℕ) (header value : List ℕ) (offset limit : ℕ) → List ℕ
@@ -68,7 +68,7 @@ abbrev pub isFragmented : (service : ℕ) → Bool
 isFragmented service = eqb service 0x52
 
 -- [01]
-unfoldable pub readReply : Tables → (memory : List ℕ) (service : ℕ) → Target → (body : List ℕ) (limit : ℕ) → List ℕ
-readReply t memory service g body limit =
+unfoldable pub readReply : (structures : List Row) (memory : List ℕ) (service : ℕ) → Target → (body : List ℕ) (limit : ℕ) → List ℕ
+readReply structures memory service g body limit =
     pick (ltb (length body) (pick (isFragmented service) 6 2)) (fail service tooShort)
-    (send service (ask t g (u16At body 0)) memory (pick (isFragmented service) (u32At body 2) 0) limit)
+    (send service (ask structures g (u16At body 0)) memory (pick (isFragmented service) (u32At body 2) 0) limit)

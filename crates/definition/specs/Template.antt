@@ -7,20 +7,20 @@ use lib.ListN.{length}
 use Rattle.laws.specs.Pick.{pick}
 use Rattle.definition.specs.Bytes.{u16At, u32At, part}
 use Rattle.definition.specs.Reply.{reply, fail, success, partial, tooLarge, tooShort, beyondEnd}
-use Rattle.definition.specs.Tables.{Tables, Row, templateStart, templateLength}
+use Rattle.definition.specs.Tables.{Row, templateStart, templateLength}
 
 -- `due` bytes from an offset of a template, cut to s = limit - 4 with no rounding [PM020]
-unfoldable pub sendTemplate : Tables → Row → (service offset due limit : ℕ) → List ℕ
-sendTemplate t r service offset due limit =
+unfoldable pub sendTemplate : (templates : List ℕ) → Row → (service offset due limit : ℕ) → List ℕ
+sendTemplate templates r service offset due limit =
     let s = limit - 4 in
     let from = templateStart r + offset in
-    pick (leb due s) (reply service success (part (t .templates) from due))
-    (pick (eqb s 0) (fail service tooLarge) (reply service partial (part (t .templates) from s)))
+    pick (leb due s) (reply service success (part templates from due))
+    (pick (eqb s 0) (fail service tooLarge) (reply service partial (part templates from s)))
 
 -- the smaller of the wanted count and the bytes left is due [01]
-unfoldable pub templateReply : Tables → Row → (service : ℕ) (body : List ℕ) (limit : ℕ) → List ℕ
-templateReply t r service body limit =
+unfoldable pub templateReply : (templates : List ℕ) → Row → (service : ℕ) (body : List ℕ) (limit : ℕ) → List ℕ
+templateReply templates r service body limit =
     let offset = u32At body 0 in
     pick (ltb (length body) 6) (fail service tooShort)
     (pick (ltb (templateLength r) offset) (fail service beyondEnd)
-    (sendTemplate t r service offset (min (u16At body 4) (templateLength r - offset)) limit))
+    (sendTemplate templates r service offset (min (u16At body 4) (templateLength r - offset)) limit))

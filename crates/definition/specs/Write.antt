@@ -10,8 +10,8 @@ use Rattle.laws.specs.Pick.{pick, both}
 use Rattle.laws.specs.Put.{put}
 use Rattle.definition.specs.Bytes.{u16At, u32At}
 use Rattle.definition.specs.Reply.{Status, Answer, answered, fail, success, tooShort, tooLong, noElements, beyondEnd, wrongType}
-use Rattle.definition.specs.Tables.{Tables, handle, noBit}
-use Rattle.definition.specs.Types.{BOOL, isStructure, structureOf, elementSize}
+use Rattle.definition.specs.Tables.{Row, handle, noBit}
+use Rattle.definition.specs.Types.{BOOL, isStructure, structureIn, sizeIn}
 use Rattle.definition.specs.Resolve.{Target}
 
 -- a write stores bytes in tag memory from a position on, or is turned away and stores nothing
@@ -79,9 +79,9 @@ writeBit memory g w =
 -- ---- a value
 
 -- the type that the target has: its code, or 0x02A0 with its structure's handle [01]
-unfoldable pub typeMatches : Tables → Target → Fields → Bool
-typeMatches t g w =
-    pick (isStructure (g .type)) (both (eqb (w .type) structureCode) (eqb (w .handle) (handle (structureOf t (g .type))))) (eqb (w .type) (g .type))
+unfoldable pub typeMatches : (structures : List Row) → Target → Fields → Bool
+typeMatches structures g w =
+    pick (isStructure (g .type)) (both (eqb (w .type) structureCode) (eqb (w .handle) (handle (structureIn structures (g .type))))) (eqb (w .type) (g .type))
 
 -- 0x4D: all of it; 0x53: a part of it from the offset [01]
 unfoldable pub writePart : (service : ℕ) → Target → Fields → (total : ℕ) → Stored
@@ -93,15 +93,15 @@ writePart service g w total =
     (pick (ltb total (length (w .value))) (noStore tooLong) (store (g .start) (w .value))))
 
 -- [01]
-unfoldable pub writeValue : Tables → (service : ℕ) → Target → Fields → Stored
-writeValue t service g w =
-    pick (typeMatches t g w)
+unfoldable pub writeValue : (structures : List Row) (service : ℕ) → Target → Fields → Stored
+writeValue structures service g w =
+    pick (typeMatches structures g w)
     (pick (eqb (w .elements) 0) (noStore noElements)
-    (pick (ltb (g .count) (w .elements)) (noStore beyondEnd) (writePart service g w (w .elements * elementSize t (g .type)))))
+    (pick (ltb (g .count) (w .elements)) (noStore beyondEnd) (writePart service g w (w .elements * sizeIn structures (g .type)))))
     (noStore wrongType)
 
 -- all fields are read before any is judged [01]
-unfoldable pub writeStored : Tables → (memory : List ℕ) (service : ℕ) → Target → (body : List ℕ) → Stored
-writeStored t memory service g body =
+unfoldable pub writeStored : (structures : List Row) (memory : List ℕ) (service : ℕ) → Target → (body : List ℕ) → Stored
+writeStored structures memory service g body =
     pick (ltb (length body) (fieldsSize service body)) (noStore tooShort)
-    (pick (eqb (g .bit) noBit) (writeValue t service g (fieldsOf service body)) (writeBit memory g (fieldsOf service body)))
+    (pick (eqb (g .bit) noBit) (writeValue structures service g (fieldsOf service body)) (writeBit memory g (fieldsOf service body)))
