@@ -42,6 +42,10 @@ pub ruleset tests = (both-on, both-off, both-off-2, lt-ltb, le-ltb, le-leb, lt-l
 
 pub ruleset chain = (pick-yes, pick-no, both-yes, both-no, lt-ltb, le-ltb, le-leb, lt-leb, eq-eqb, ne-eqb)
 
+-- two constructors that are said to be equal: `clash (cc e)`
+pub clash : {P : Type 0} → _≡_ {A = ℕ} 0 1 → P
+clash e = absurd (omega arith)
+
 -- a case by a test, with the test's outcome as a fact
 pub by-test : {P : Type 0} (t : Bool) → (t ≡ true → P) → (t ≡ false → P) → P
 by-test true f g = f refl

@@ -10,6 +10,12 @@ use borrow.Author.Tests.{lt-ltb, le-ltb, ne-eqb, eqb-false}
 use Rattle.laws.specs.Items.{before, items, each, over}
 use Rattle.laws.proofs.Chain.{by-test}
 
+module _ {A S R : Type 0} (g : A → S → S) (done : S → R) (bad : R) where
+  pub over-before : (s : S) (a : A) (m : Option (List A)) → over g done bad s (before a m) ≡ over g done bad (g a s) m
+  unfolding over each
+  over-before s a none = refl
+  over-before s a (some l) = refl
+
 module _ {A : Type 0} (f : ℕ → A) (next : A → ℕ) (e : ℕ) (forward : (at : ℕ) → (next (f at) ≡ 0 → ⊥) → at < next (f at)) where
   -- any bound that is enough gives the same
   enough : (m k at : ℕ) → e ≤ at + m → e ≤ at + k → items f next m e at ≡ items f next k e at
@@ -22,19 +28,19 @@ module _ {A : Type 0} (f : ℕ → A) (next : A → ℕ) (e : ℕ) (forward : (a
       (λ t. let p : at < next (f at) = forward at (eqb-false (next (f at)) 0 t) in
       rw (enough m k (next (f at)) (omega arith) (omega arith)))
 
-  items-at : (k at : ℕ) → e ≤ k → at < e → (next (f at) ≡ 0 → ⊥) → items f next k e at ≡ before (f at) (items f next k e (next (f at)))
+  pub items-at : (k at : ℕ) → e ≤ k → at < e → (next (f at) ≡ 0 → ⊥) → items f next k e at ≡ before (f at) (items f next k e (next (f at)))
   unfolding items
   items-at zero at l h n = absurd (omega arith)
   items-at (suc m) at l h n =
       let p : at < next (f at) = forward at n in
       rw (lt-ltb at e h, ne-eqb (next (f at)) 0 n) (ap (before (f at)) (enough m (suc m) (next (f at)) (omega arith) (omega arith)))
 
-  items-bad : (k at : ℕ) → e ≤ k → at < e → next (f at) ≡ 0 → items f next k e at ≡ none
+  pub items-bad : (k at : ℕ) → e ≤ k → at < e → next (f at) ≡ 0 → items f next k e at ≡ none
   unfolding items
   items-bad zero at l h n = absurd (omega arith)
   items-bad (suc m) at l h n = rw (lt-ltb at e h, n)
 
-  items-end : (k at : ℕ) → e ≤ at → items f next k e at ≡ some []
+  pub items-end : (k at : ℕ) → e ≤ at → items f next k e at ≡ some []
   unfolding items
   items-end zero at h = rw (le-ltb at e h)
   items-end (suc m) at h = rw (le-ltb at e h)
@@ -43,16 +49,11 @@ module _ {A : Type 0} (f : ℕ → A) (next : A → ℕ) (e : ℕ) (forward : (a
   next-after at n a p q h = rw (q, p) (forward at (λ t. h (q ∙ ap next p ∙ t)))
 
   module _ {S R : Type 0} (g : A → S → S) (done : S → R) (bad : R) (z : S) where
-    over-before : (s : S) (a : A) (m : Option (List A)) → over g done bad s (before a m) ≡ over g done bad (g a s) m
-    unfolding over each
-    over-before s a none = refl
-    over-before s a (some l) = refl
-
     module _ (s : S) (at : ℕ) (here : over g done bad s (items f next e e at) ≡ over g done bad z (items f next e e 0)) where
       pub over-next : (t : S) (n : ℕ) (a : A) → at < e → a ≡ f at → n ≡ next a → (n ≡ 0 → ⊥) → t ≡ g a s → over g done bad t (items f next e e n) ≡ over g done bad z (items f next e e 0)
       over-next t n a h p q x y =
           let x′ : next (f at) ≡ 0 → ⊥ = λ r. x (q ∙ ap next p ∙ r) in
-          rw (y, q, p) (rw (items-at e at (omega arith) h x′, over-before s (f at)) at here)
+          rw (y, q, p) (rw (items-at e at (omega arith) h x′, over-before g done bad s (f at)) at here)
 
       pub over-bad : (v : R) (n : ℕ) (a : A) → at < e → a ≡ f at → n ≡ next a → n ≡ 0 → v ≡ bad → v ≡ over g done bad z (items f next e e 0)
       unfolding over

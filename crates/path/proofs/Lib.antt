@@ -1,0 +1,5 @@
+pub mod Cases
+pub mod Forward
+pub mod Segments
+pub mod TagPaths
+pub mod Laws

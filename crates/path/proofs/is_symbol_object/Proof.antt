@@ -1,0 +1,25 @@
+use borrow.Author.Needs.{needs}
+use Rattle.path.proofs.is_symbol_object.Statement.{statement}
+use Rattle.path.proofs.is_symbol_object.Tie as tie
+
+returns : tie.Need-returns
+returns c = cc
+
+pub is-symbol-object-spec : {M : Type 1} → statement M
+is-symbol-object-spec =
+    tie.close
+    (tie.spec
+    (λ c. search needs)
+    (λ c. search needs)
+    (λ c. search needs)
+    (λ c. search needs)
+    (λ c. search needs)
+    (λ c. search needs)
+    (λ c. search needs)
+    returns
+    (λ c. search needs)
+    (λ c. search needs)
+    (λ c. search needs)
+    (λ c. search needs)
+    (λ c. search needs)
+    (λ c. search needs))

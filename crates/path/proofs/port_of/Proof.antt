@@ -1,0 +1,9 @@
+use borrow.Author.Needs.{needs}
+use Rattle.path.proofs.port_of.Statement.{statement}
+use Rattle.path.proofs.port_of.Tie as tie
+
+returns : tie.Need-returns
+returns c = cc
+
+pub port-of-spec : {M : Type 1} → statement M
+port-of-spec = tie.close (tie.spec (λ c. search needs) (λ c. search needs) returns (λ c. search needs))
