@@ -8,3 +8,4 @@ pub mod Put
 pub mod Sorted
 pub mod Tests
 pub mod Least
+pub mod Loops

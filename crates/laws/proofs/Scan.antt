@@ -1,13 +1,14 @@
 -- A loop that looks for the first element that passes a test: the invariant is `scan p hit miss i (drop i xs) ≡ scan p hit miss 0 xs`.
 -- Assumes nothing.
-use mathlib.Core.Path.{_≡_, _∙_}
+use mathlib.Core.Path.{_≡_, refl, _∙_}
 use mathlib.Core.Bool.{Bool, true, false}
-use mathlib.Core.List.{List}
-use Prim.Native.Nat.{ℕ, _+_, _<_, _≤_}
+use mathlib.Core.List.{List, [], _∷_}
+use Prim.Native.Nat.{ℕ, suc, _+_, _<_, _≤_}
 use native.Mathlib.Numerals.{add-one}
 use lib.ListN.{length, getD, drop, drop-of-length-le}
 use lib.Seq.{drop-cons}
 use Rattle.laws.specs.Scan.{scan}
+use Rattle.laws.proofs.Chain.{pick-map}
 
 -- the scan from i on is the whole scan: where a loop that has found nothing yet is
 module _ {A R : Type 0} (p : A → Bool) (hit : ℕ → R) (miss : R) (d : A) (i : ℕ) (xs : List A) (here : scan p hit miss i (drop i xs) ≡ scan p hit miss 0 xs) where
@@ -33,3 +34,10 @@ module _ {A R : Type 0} (p : A → Bool) (hit : ℕ → R) (miss : R) (d : A) (i
   scan-hit v h e t = t ∙ rw (drop-cons xs i d, e) at here
 
 pub ruleset scans = (scan-next, scan-found, scan-none)
+
+-- a function goes through a scan
+pub scan-map : {A R S : Type 0} (h : R → S) (p : A → Bool) (hit : ℕ → R) (miss : R) (i : ℕ) (xs : List A)
+    → h (scan p hit miss i xs) ≡ scan p (λ j. h (hit j)) (h miss) i xs
+unfolding scan
+scan-map h p hit miss i [] = refl
+scan-map h p hit miss i (x ∷ xs) = rw (pick-map h, scan-map h p hit miss (suc i) xs)

@@ -1,0 +1,69 @@
+-- A loop that looks for an element that passes a test, or for one that does not: the invariants are `some-of p (drop i xs) ≡ some-of p xs`
+-- and `every p (drop i xs) ≡ every p xs`. Assumes nothing.
+use mathlib.Core.Path.{_≡_, refl, sym}
+use mathlib.Core.Bool.{Bool, true, false, not}
+use mathlib.Core.List.{List}
+use Prim.Native.Nat.{ℕ, _+_, _<_, _≤_}
+use native.Mathlib.Numerals.{add-one}
+use lib.ListN.{length, getD, drop, drop-of-length-le}
+use lib.Seq.{drop-cons}
+use Rattle.laws.specs.Tests.{every, some-of}
+
+-- where the loop's test is `!f(..)`
+pub not-on : (r : Bool) → not r ≡ true → r ≡ false
+not-on true e = sym e
+not-on false e = refl
+
+pub not-off : (r : Bool) → not r ≡ false → r ≡ true
+not-off true e = refl
+not-off false e = sym e
+
+-- no element before i passes
+module _ {A : Type 0} (p : A → Bool) (d : A) (i : ℕ) (xs : List A) (here : some-of p (drop i xs) ≡ some-of p xs) where
+  pub some-next : {r : Bool} {j : ℕ} → i < length xs → r ≡ p (getD xs i d) → r ≡ false → j ≡ i + 1 → some-of p (drop j xs) ≡ some-of p xs
+  unfolding some-of
+  some-next h e n t = rw (t, add-one) (rw (drop-cons xs i d, ← e, n) at here)
+
+  pub some-found : {r : Bool} → i < length xs → r ≡ p (getD xs i d) → r ≡ true → true ≡ some-of p xs
+  unfolding some-of
+  some-found h e y = rw (drop-cons xs i d, ← e, y) at here
+
+  pub some-none : length xs ≤ i → false ≡ some-of p xs
+  unfolding some-of
+  some-none h = rw (drop-of-length-le xs h) at here
+
+  -- the same, with the test's value itself, for a test that the loop makes in place: `search (somes-here, tests)`, with `tests` of Chain
+  pub some-skip : (j : ℕ) → i < length xs → p (getD xs i d) ≡ false → j ≡ i + 1 → some-of p (drop j xs) ≡ some-of p xs
+  some-skip j h e t = some-next h (sym e) refl t
+
+  pub some-hit : i < length xs → p (getD xs i d) ≡ true → true ≡ some-of p xs
+  some-hit h e = some-found h (sym e) refl
+
+pub ruleset somes = (some-next, some-found, some-none, not-on, not-off)
+
+pub ruleset somes-here = (some-skip, some-hit, some-none)
+
+-- each element before i passes
+module _ {A : Type 0} (p : A → Bool) (d : A) (i : ℕ) (xs : List A) (here : every p (drop i xs) ≡ every p xs) where
+  pub every-next : {r : Bool} {j : ℕ} → i < length xs → r ≡ p (getD xs i d) → r ≡ true → j ≡ i + 1 → every p (drop j xs) ≡ every p xs
+  unfolding every
+  every-next h e y t = rw (t, add-one) (rw (drop-cons xs i d, ← e, y) at here)
+
+  pub every-stop : {r : Bool} → i < length xs → r ≡ p (getD xs i d) → r ≡ false → false ≡ every p xs
+  unfolding every
+  every-stop h e n = rw (drop-cons xs i d, ← e, n) at here
+
+  pub every-end : length xs ≤ i → true ≡ every p xs
+  unfolding every
+  every-end h = rw (drop-of-length-le xs h) at here
+
+  -- the same, with the test's value itself: `search (everys-here, tests)`
+  pub every-pass : (j : ℕ) → i < length xs → p (getD xs i d) ≡ true → j ≡ i + 1 → every p (drop j xs) ≡ every p xs
+  every-pass j h e t = every-next h (sym e) refl t
+
+  pub every-fail : i < length xs → p (getD xs i d) ≡ false → false ≡ every p xs
+  every-fail h e = every-stop h (sym e) refl
+
+pub ruleset everys = (every-next, every-stop, every-end, not-on, not-off)
+
+pub ruleset everys-here = (every-pass, every-fail, every-end)

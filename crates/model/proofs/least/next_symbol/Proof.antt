@@ -1,0 +1,10 @@
+use borrow.Author.Needs.{needs}
+use Rattle.model.proofs.least.next_symbol.Statement.{statement}
+use Rattle.model.proofs.least.next_symbol.Tie as tie
+
+returns : tie.Need-returns
+returns c = cc
+
+pub next-symbol-spec : {M : Type 1} → statement M
+next-symbol-spec =
+    tie.close (tie.spec (λ c κs. search needs) (λ c κs. search needs) (λ c κs. search needs) returns)

@@ -1,0 +1,16 @@
+use borrow.Author.Needs.{needs}
+use Rattle.model.proofs.lookup.program_is.Statement.{statement}
+use Rattle.model.proofs.lookup.program_is.Tie as tie
+
+returns : tie.Need-returns
+returns c = cc
+
+pub program-is-spec : {M : Type 1} → statement M
+program-is-spec =
+    tie.close
+    (tie.spec
+    (λ c. search needs)
+    (λ c. search needs)
+    (λ c κs. search needs)
+    (λ c κs. search needs)
+    returns)

@@ -1,0 +1,11 @@
+use Rattle.model.proofs.Laws.{no-row}
+use borrow.Author.Needs.{needs}
+use Rattle.model.proofs.types.structure_template.Statement.{statement}
+use Rattle.model.proofs.types.structure_template.Tie as tie
+
+returns-2 : tie.Need-returns-2
+returns-2 c = search no-row
+
+pub structure-template-spec : {M : Type 1} → statement M
+structure-template-spec =
+    tie.close (tie.spec (λ c. search needs) (λ c. search needs) (λ c. search needs) (λ c. search needs) returns-2)

@@ -1,0 +1,4 @@
+pub mod Least
+pub mod Rows
+pub mod Shapes
+pub mod Tables
