@@ -1,12 +1,12 @@
 -- An answer by a chain of tests, from the facts of the branches that led to it: `search (needs, chain)`.
 -- Assumes nothing.
 use mathlib.Core.Path.{_≡_, refl, sym, _∙_}
-use mathlib.Core.Bool.{Bool, true, false}
+use mathlib.Core.Bool.{Bool, true, false, not}
 use Prim.Native.Nat.{ℕ, _+_, _-_, _<_, _≤_}
 use native.Mathlib.Omega.{arith}
-use lib.Dec.{ltb, eqb}
-use borrow.Author.Tests.{lt-ltb, le-ltb, le-leb, lt-leb, eq-eqb, ne-eqb}
-use Rattle.laws.specs.Pick.{pick, both}
+use lib.Dec.{ltb, leb, eqb}
+use borrow.Author.Tests.{lt-ltb, le-ltb, le-leb, lt-leb, eq-eqb, ne-eqb, leb-true, eqb-true, eqb-false, not-true, not-false}
+use Rattle.laws.specs.Pick.{pick, both, either}
 
 pub pick-yes : {A : Type 0} (t : Bool) (v a b : A) → t ≡ true → v ≡ a → v ≡ pick t a b
 pick-yes t v a b e p = rw e p
@@ -37,14 +37,14 @@ pub both-off-2 : (t u : Bool) → u ≡ false → both t u ≡ false
 both-off-2 true u e = e
 both-off-2 false u e = refl
 
+-- two constructors that are said to be equal: `clash (cc e)`
+pub clash : {P : Type 0} → _≡_ {A = ℕ} 0 1 → P
+clash e = absurd (omega arith)
+
 -- the value of a test that is made in place
 pub ruleset tests = (both-on, both-off, both-off-2, lt-ltb, le-ltb, le-leb, lt-leb, eq-eqb, ne-eqb)
 
 pub ruleset chain = (pick-yes, pick-no, both-yes, both-no, lt-ltb, le-ltb, le-leb, lt-leb, eq-eqb, ne-eqb)
-
--- two constructors that are said to be equal: `clash (cc e)`
-pub clash : {P : Type 0} → _≡_ {A = ℕ} 0 1 → P
-clash e = absurd (omega arith)
 
 -- a case by a test, with the test's outcome as a fact
 pub by-test : {P : Type 0} (t : Bool) → (t ≡ true → P) → (t ≡ false → P) → P
@@ -86,3 +86,56 @@ pub ge-by : (k x n : ℕ) → k ≡ x → n ≤ k → ltb x n ≡ false
 ge-by k x n q h = le-ltb x n (omega arith)
 
 pub ruleset by-call = (pick-yes-by, pick-no-by, both-yes-by, both-no-by, eq-by, ne-by, lt-by, ge-by)
+
+-- one test or the other, and two tests that are not both met: also by what a call returned
+pub either-yes : (t u : Bool) → t ≡ true → true ≡ either t u
+either-yes t u e = rw e
+
+pub either-no : (t u r : Bool) → t ≡ false → r ≡ u → r ≡ either t u
+either-no t u r e p = rw e p
+
+pub either-yes-by : (s t u : Bool) → s ≡ t → s ≡ true → true ≡ either t u
+either-yes-by s t u q e = rw (← q, e)
+
+pub either-no-by : (s t u r : Bool) → s ≡ t → s ≡ false → r ≡ u → r ≡ either t u
+either-no-by s t u r q e p = rw (← q, e) p
+
+pub ruleset eithers = (either-yes, either-no, either-yes-by, either-no-by)
+
+pub unlike-yes : (t u : Bool) → t ≡ false → true ≡ not (both t u)
+unlike-yes t u e = rw e
+
+pub unlike-no : (t u r : Bool) → t ≡ true → r ≡ not u → r ≡ not (both t u)
+unlike-no t u r e p = rw e p
+
+pub unlike-same : (s t u : Bool) → t ≡ true → s ≡ u → not s ≡ not (both t u)
+unlike-same s t u e p = rw (e, p)
+
+pub ruleset unlike = (unlike-yes, unlike-no, unlike-same, eq-eqb, ne-eqb)
+
+-- a chain of `if !f(x) { return false; }`, and of `if x > n { return false; }` where a call made x
+pub both-kept : (s t u r : Bool) → s ≡ t → not s ≡ false → r ≡ u → r ≡ both t u
+both-kept s t u r q e p = both-yes-by s t u r q (not-false s e) p
+
+pub both-refused : (s t u : Bool) → s ≡ t → not s ≡ true → false ≡ both t u
+both-refused s t u q e = both-no-by s t u q (not-true s e)
+
+pub kept-le : (s : Bool) (a n : ℕ) → s ≡ leb a n → not s ≡ false → a ≤ n
+kept-le s a n q e = leb-true a n (sym q ∙ not-false s e)
+
+pub le-by : (k x n : ℕ) → k ≡ x → k ≤ n → leb x n ≡ true
+le-by k x n q h = le-leb x n (omega arith)
+
+pub gt-by : (k x n : ℕ) → k ≡ x → n < k → leb x n ≡ false
+gt-by k x n q h = lt-leb x n (omega arith)
+
+pub some-yes : (x : ℕ) → (x ≡ 0 → ⊥) → ltb 0 x ≡ true
+some-yes x h = lt-ltb 0 x (omega arith)
+
+pub some-no : (x : ℕ) → x ≡ 0 → ltb 0 x ≡ false
+some-no x e = rw e
+
+pub some-is : (x : ℕ) → not (eqb x 0) ≡ ltb 0 x
+some-is x = by-test (eqb x 0) (λ t. rw (t, some-no x (eqb-true x 0 t))) (λ t. rw (t, some-yes x (eqb-false x 0 t)))
+
+pub ruleset refusals = (both-kept, both-refused, both-yes, both-no, le-by, gt-by, some-yes, some-no, some-is, lt-ltb, le-ltb, le-leb, lt-leb, eq-eqb, ne-eqb)

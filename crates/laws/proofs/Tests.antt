@@ -10,8 +10,8 @@ use lib.ListN.{length, getD}
 use Rattle.laws.specs.Pick.{pick, both, either, isEmpty}
 use Rattle.laws.specs.Scan.{scan}
 use Rattle.laws.specs.Sorted.{All, Distinct}
-use Rattle.laws.specs.Tests.{every, everyFrom}
-use Rattle.laws.proofs.Chain.{pick-all, both-off-2}
+use Rattle.laws.specs.Tests.{every, everyFrom, pairs}
+use Rattle.laws.proofs.Chain.{pick-all, both-on, both-off-2}
 
 pub both-true : (t u : Bool) → both t u ≡ true → (t ≡ true) × (u ≡ true)
 both-true true u e = (refl, e)
@@ -80,3 +80,47 @@ pub Distinct-append : {A : Type 0} (key : A → ℕ) (xs ys : List A) → Distin
 Distinct-append key [] ys d e a = e
 Distinct-append key (x ∷ xs) ys d e a =
     (All-append (λ y. key x ≢ key y) xs ys (d .0) (a .0), Distinct-append key xs ys (d .1) e (a .1))
+
+-- ---- tests in another order: two tests that hold together are equal
+
+pub equal-tests : (a b : Bool) → (a ≡ true → b ≡ true) → (b ≡ true → a ≡ true) → a ≡ b
+equal-tests true b f g = sym (f refl)
+equal-tests false true f g = g refl
+equal-tests false false f g = refl
+
+pub both-left : (t u : Bool) → both t u ≡ true → t ≡ true
+both-left t u e = both-true t u e .0
+
+pub both-right : (t u : Bool) → both t u ≡ true → u ≡ true
+both-right t u e = both-true t u e .1
+
+pub ruleset regroup = (both-left, both-right, both-on)
+
+pub both-assoc : (a b c : Bool) → both (both a b) c ≡ both a (both b c)
+both-assoc true b c = refl
+both-assoc false b c = refl
+
+pub swapped : (a b c d : Bool) → both (both a b) (both c d) ≡ both (both a c) (both b d)
+swapped a b c d = equal-tests _ _ (λ e. search regroup) (λ e. search regroup)
+
+pub every-both : {A : Type 0} (p q : A → Bool) (xs : List A) → every (λ x. both (p x) (q x)) xs ≡ both (every p xs) (every q xs)
+unfolding every
+every-both p q [] = refl
+every-both p q (x ∷ xs) = rw (every-both p q xs) (swapped (p x) (q x) _ _)
+
+pub from-both : {A : Type 0} (p q : ℕ → A → Bool) (i : ℕ) (xs : List A)
+    → everyFrom (λ i x. both (p i x) (q i x)) i xs ≡ both (everyFrom p i xs) (everyFrom q i xs)
+unfolding everyFrom
+from-both p q i [] = refl
+from-both p q i (x ∷ xs) = rw (from-both p q (suc i) xs) (swapped (p i x) (q i x) _ _)
+
+-- a test that needs no index
+pub from-every : {A : Type 0} (p : A → Bool) (i : ℕ) (xs : List A) → everyFrom (λ i. p) i xs ≡ every p xs
+unfolding every everyFrom
+from-every p i [] = refl
+from-every p i (x ∷ xs) = rw (from-every p (suc i) xs)
+
+pub pairs-both : {A : Type 0} (p q : A → A → Bool) (xs : List A) → pairs (λ x y. both (p x y) (q x y)) xs ≡ both (pairs p xs) (pairs q xs)
+unfolding pairs
+pairs-both p q [] = refl
+pairs-both p q (x ∷ xs) = rw (pairs-both p q xs, every-both (p x) (q x) xs) (swapped (every (p x) xs) (every (q x) xs) _ _)

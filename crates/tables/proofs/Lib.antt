@@ -1,0 +1,2 @@
+pub mod Regrouped
+pub mod Laws

@@ -1,0 +1,40 @@
+use Prim.Native.Nat.{_≤_, _-_}
+use mathlib.Core.Path.{_≡_}
+use lib.ListN.{length, drop}
+use Rattle.laws.specs.Tests.{every}
+use Rattle.laws.proofs.Loops.{everys}
+use Rattle.tables.specs.Judged.{otherJudged}
+use borrow.Author.Needs.{needs}
+use Rattle.tables.proofs.others_judged.Statement.{statement}
+use Rattle.tables.proofs.others_judged.Tie as tie
+
+abbrev Inv-loop : tie.InvT-loop
+Inv-loop others names programs i₀ i = (i ≤ length others) × (every (otherJudged names programs) (drop i others) ≡ every (otherJudged names programs) others)
+
+abbrev μ-loop : tie.MeasureT-loop
+μ-loop others names programs i₀ i = length others - i
+
+loop-again : tie.Need-loop-again Inv-loop μ-loop
+loop-again c = (search needs, search everys)
+
+returns : tie.Need-returns Inv-loop μ-loop
+returns c = search everys
+
+returns-2 : tie.Need-returns-2 Inv-loop μ-loop
+returns-2 c = search everys
+
+pub others-judged-spec : {M : Type 1} → statement M
+others-judged-spec =
+    tie.close
+    (tie.spec
+    Inv-loop
+    μ-loop
+    (λ c. search needs)
+    (λ c. search needs)
+    (λ c. search needs)
+    (λ c κs. search needs)
+    (λ c. search needs)
+    (λ c. search needs)
+    loop-again
+    returns
+    returns-2)

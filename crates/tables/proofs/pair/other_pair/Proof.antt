@@ -1,0 +1,19 @@
+use Rattle.definition.specs.Valid.{idsDiffer}
+use borrow.Author.Needs.{needs}
+use Rattle.tables.proofs.pair.other_pair.Statement.{statement}
+use Rattle.tables.proofs.pair.other_pair.Tie as tie
+
+returns : tie.Need-returns
+unfolding idsDiffer
+returns c = cc
+
+pub other-pair-spec : {M : Type 1} → statement M
+other-pair-spec =
+    tie.close
+    (tie.spec
+    (λ c. search needs)
+    (λ c. search needs)
+    (λ c. search needs)
+    (λ c. search needs)
+    (λ c κs. search needs)
+    returns)

@@ -1,0 +1,21 @@
+use Rattle.definition.specs.Valid.{programNamesDiffer}
+use borrow.Author.Needs.{needs}
+use Rattle.tables.proofs.pair.program_pair.Statement.{statement}
+use Rattle.tables.proofs.pair.program_pair.Tie as tie
+
+returns : tie.Need-returns
+unfolding programNamesDiffer
+returns c = cc
+
+pub program-pair-spec : {M : Type 1} → statement M
+program-pair-spec =
+    tie.close
+    (tie.spec
+    (λ c. search needs)
+    (λ c. search needs)
+    (λ c κs. search needs)
+    (λ c. search needs)
+    (λ c. search needs)
+    (λ c κs. search needs)
+    (λ c κs. search needs)
+    returns)

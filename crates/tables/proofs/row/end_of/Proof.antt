@@ -1,0 +1,19 @@
+use Rattle.tables.proofs.Laws.{product-fits}
+use native.Mathlib.Omega.{arith}
+use borrow.Author.Needs.{needs}
+use Rattle.tables.proofs.row.end_of.Statement.{statement}
+use Rattle.tables.proofs.row.end_of.Tie as tie
+
+mul-result : tie.Need-mul-result
+mul-result c = omega (arith, product-fits _ _ (c .before .long2 .ensures .1) (c .long3 .ensures .1))
+
+add-result : tie.Need-add-result
+add-result c = omega (arith, product-fits _ _ (c .before .long2 .ensures .1) (c .long3 .ensures .1))
+
+returns : tie.Need-returns
+returns c = cc
+
+pub end-of-spec : {M : Type 1} → statement M
+end-of-spec =
+    tie.close
+    (tie.spec (λ c κs. search needs) (λ c κs. search needs) (λ c κs. search needs) mul-result add-result returns)

@@ -1,0 +1,17 @@
+use borrow.Author.Needs.{needs}
+use Rattle.tables.proofs.row.tag_end.Statement.{statement}
+use Rattle.tables.proofs.row.tag_end.Tie as tie
+
+returns : tie.Need-returns
+returns c = cc
+
+pub tag-end-spec : {M : Type 1} → statement M
+tag-end-spec =
+    tie.close
+    (tie.spec
+    (λ c. search needs)
+    (λ c. search needs)
+    (λ c. search needs)
+    (λ c κs. search needs)
+    (λ c κs. search needs)
+    returns)

@@ -1,0 +1,9 @@
+use borrow.Author.Needs.{needs}
+use Rattle.tables.proofs.row.within.Statement.{statement}
+use Rattle.tables.proofs.row.within.Tie as tie
+
+returns : tie.Need-returns
+returns c = cc
+
+pub within-spec : {M : Type 1} → statement M
+within-spec = tie.close (tie.spec (λ c κs. search needs) (λ c κs. search needs) (λ c. search needs) returns)
