@@ -1,0 +1,13 @@
+use Rattle.laws.proofs.Chain.{chain, by-call}
+use borrow.Author.Needs.{needs}
+use Rattle.export.proofs.ciplink_valid.Statement.{statement}
+use Rattle.export.proofs.ciplink_valid.Tie as tie
+
+returns : tie.Need-returns
+returns c = search (chain, by-call)
+
+returns-2 : tie.Need-returns-2
+returns-2 c = search (chain, by-call)
+
+pub ciplink-valid-spec : {M : Type 1} → statement M
+ciplink-valid-spec = tie.close (tie.spec (λ c κs. search needs) returns returns-2)
