@@ -25,7 +25,7 @@ module _ (structures members : List Row) (names : List ℕ) (templates : ℕ) wh
       ≡ both (both (every (structureEncoded (length names) (length members)) rows) (every (λ r. isName (structureName names r)) rows))
       (everyFrom (structureFits structures members templates) 0 rows)
   structure-rows rows =
-      ap (λ p. everyFrom p 0 rows) (fun-ext (λ i. fun-ext (structure-row i))) ∙ simp (from-both, from-every, every-both)
+      ap (λ p. everyFrom p 0 rows) (fun-ext (λ i. fun-ext (structure-row i))) ∙ simp (from-both, from-every)
 
 module _ (names : List ℕ) (n : ℕ) where
   member-row : (r : Row) → memberJudged names n r

@@ -3,7 +3,6 @@ ghost use mathlib.Core.Path.{_≡_};
 ghost use mathlib.Core.Bool.{not};
 ghost use lib.Dec.{eqb};
 ghost use Rattle.laws.specs.Pick.{both};
-ghost use Rattle.definition.specs.Names.{sameName};
 ghost use Rattle.definition.specs.Valid.{tagNamesDiffer, otherNamesDiffer, programNamesDiffer, idsDiffer, apart};
 ghost use Rattle.tables.specs.Judged.{tagPair, tagOther};
 use crate::row;

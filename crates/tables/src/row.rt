@@ -1,14 +1,11 @@
 // The tests of one row: its encoding, its name, its fields.
 ghost use mathlib.Core.Path.{_≡_};
-ghost use mathlib.Core.Bool.{Bool};
-ghost use mathlib.Core.List.{[]};
 ghost use Prim.Native.Nat.{_+_, _*_, _≤_, _<_, max};
 ghost use lib.Dec.{leb, eqb};
-ghost use lib.ListN.{length, getD};
+ghost use lib.ListN.{length};
 ghost use Rattle.laws.specs.Pick.{both};
 ghost use Rattle.laws.specs.Tests.{every};
 ghost use Rattle.definition.specs.Tables.{firstMember, memberCount};
-ghost use Rattle.definition.specs.Types.{atomicSize, sizeIn};
 ghost use Rattle.definition.specs.Valid.{isName, isType, memberFits, structureFits, tagFits, endIn};
 ghost use Rattle.tables.specs.Judged.{nameJudged, structureNamed, structureJudged, memberJudged, programJudged, tagJudged, otherJudged, zerosLast3, product3, boolArray3};
 

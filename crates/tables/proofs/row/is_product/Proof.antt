@@ -20,7 +20,7 @@ returns-3 : tie.Need-returns-3
 returns-3 c = rw (ne-eqb _ _ (c .before .before .before .before .before .if1 .left), ne-eqb _ _ (c .before .before .before .before .if2 .left), eq-eqb _ _ (c .before .if3 .taken)) (cc)
 
 returns-4 : tie.Need-returns-4
-returns-4 c = rw (ne-eqb _ _ (c .before .before .before .before .before .if1 .left), ne-eqb _ _ (c .before .before .before .before .if2 .left), ne-eqb _ _ (c .before .if3 .left), ← c .before .before .before .long .ensures .0, ← c .before .before .long2 .ensures .0) (sym (too-large _ _ _ (omega arith) (c .if4 .taken) (c .before .if3 .left)))
+returns-4 c = let h : 4294967295 < c .before .before .before .long .result * c .before .before .long2 .result = omega arith in rw (ne-eqb _ _ (c .before .before .before .before .before .if1 .left), ne-eqb _ _ (c .before .before .before .before .if2 .left), ne-eqb _ _ (c .before .if3 .left), ← c .before .before .before .long .ensures .0, ← c .before .before .long2 .ensures .0) (sym (too-large _ _ _ (omega arith) h (c .before .if3 .left)))
 
 mul-result : tie.Need-mul-result
 mul-result c = let h : c .before .before .before .before .before .long .result * c .before .before .before .before .long2 .result < 4294967296 = omega arith in omega (arith, product-fits _ _ h (c .long5 .ensures .1))
