@@ -43,11 +43,16 @@ pub mod oracle {
     }
 
     fn ty(word: u32) -> Ty {
+        known(word).expect("an atomic code")
+    }
+
+    /// The type of a word; None where it is neither a structure's nor an atomic code.
+    pub(super) fn known(word: u32) -> Option<Ty> {
         match word.checked_sub(0x100) {
-            Some(index) => Ty::Struct(index as usize),
+            Some(index) => Some(Ty::Struct(index as usize)),
             None => {
                 let code = |a: &Atomic| u32::from(a.code()) == word;
-                Ty::Atomic(ATOMICS.into_iter().find(code).expect("an atomic code"))
+                ATOMICS.into_iter().find(code).map(Ty::Atomic)
             }
         }
     }

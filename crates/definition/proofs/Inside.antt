@@ -27,7 +27,7 @@ use Rattle.definition.specs.Promises.{Lies, Target-lies-in-its-tag}
 use Rattle.definition.proofs.Facts.{structure-in, member-type, member-inside, element-some, tag-type, tag-in-memory, tag-elements}
 
 -- indexes below their lengths reach a position below the lengths' product
-position-below : (p : ℕ) (es ns : List ℕ) → length es ≡ length ns → allBelow es ns ≡ true → rowMajor p es ns < (p + 1) * product ns
+pub position-below : (p : ℕ) (es ns : List ℕ) → length es ≡ length ns → allBelow es ns ≡ true → rowMajor p es ns < (p + 1) * product ns
 unfolding allBelow rowMajor
 position-below p [] [] l e = omega arith
 position-below p [] (n ∷ ns) l e = absurd (omega arith)
@@ -49,19 +49,19 @@ then-found P Q (found g) next h k = k g h
 then-found P Q (turned status) next h k = tt
 
 -- a target in its tag, of a type of the tables, with as many elements as its open array's indexes reach
-record Stands (t : Tables) (g : Target) : Type 0 where
-  tag : g .tag < length (t .tags)
-  type : isType (length (t .structures)) (g .type) ≡ true
-  some-elements : 0 < g .count
-  reach : product (g .lengths) ≤ g .count
-  after-start : tagOffset (tagAt t (g .tag)) ≤ g .start
-  before-end : g .start + g .count * elementSize t (g .type) ≤ tagEnd t (tagAt t (g .tag))
+pub record Stands (t : Tables) (g : Target) : Type 0 where
+  pub tag : g .tag < length (t .tags)
+  pub type : isType (length (t .structures)) (g .type) ≡ true
+  pub some-elements : 0 < g .count
+  pub reach : product (g .lengths) ≤ g .count
+  pub after-start : tagOffset (tagAt t (g .tag)) ≤ g .start
+  pub before-end : g .start + g .count * elementSize t (g .type) ≤ tagEnd t (tagAt t (g .tag))
 
 module _ (t : Tables) (f : Flags) (memory : ℕ) (ok : valid t memory ≡ true) where
   abbrev Stood : Resolved → Type 0
   Stood = OnFound (Stands t)
 
-  tag-stands : (i : ℕ) → i < length (t .tags) → Stands t (wholeTag t i)
+  pub tag-stands : (i : ℕ) → i < length (t .tags) → Stands t (wholeTag t i)
   unfolding wholeTag
   tag-stands i h = record {
     tag = h;
@@ -141,7 +141,7 @@ module _ (t : Tables) (f : Flags) (memory : ℕ) (ok : valid t memory ≡ true) 
       (λ j h. visible-stands g _ (member-stands g j s (both-true (isStructure (g .type)) _ e .0) (omega arith))))
       (λ e. tt)
 
-  move-stands : (m : Move) (g : Target) → Stands t g → Stood (moveTo t f m g)
+  pub move-stands : (m : Move) (g : Target) → Stands t g → Stood (moveTo t f m g)
   move-stands (indexes es) g s = index-stands es g s
   move-stands (member name) g s = member-of-stands name g s
   move-stands stray g s = tt

@@ -2,12 +2,12 @@
 -- Assumes nothing.
 use mathlib.Core.Path.{_≡_, refl, sym, ap, _∙_}
 use mathlib.Core.List.{List, [], _∷_, _++_, append-assoc}
-use Prim.Native.Nat.{ℕ, _+_, _-_, _≤_, _<_}
+use Prim.Native.Nat.{ℕ, zero, suc, _+_, _-_, _≤_, _<_}
 use native.Mathlib.Omega.{arith}
 use native.Mathlib.Numerals.{add-one}
 use native.Mathlib.Nat.{add-assoc, sub-self, zero-add}
 use lib.ListN.{length, take, drop, set, replicate, length-append, length-drop, length-replicate, take-append-drop, replicate-append-replicate}
-use lib.Seq.{take-at, drop-at, drop-append-add, drop-drop, length-take-le, set-split, append-snoc, take-all, drop-cons, set-at, paste}
+use lib.Seq.{take-at, drop-at, drop-append-add, drop-drop, length-take-le, set-split, append-snoc, take-all, take-take, take-nil, drop-cons, set-at, paste}
 use Rattle.laws.specs.Put.{put, laid, zeroed}
 
 module _ (xs : List ℕ) (at : ℕ) (ys : List ℕ) (fits : at + length ys ≤ length xs) where
@@ -110,3 +110,13 @@ laid-by m n old x z ys e f g h k =
 
 pub length-part : (xs : List ℕ) (a n : ℕ) → a + n ≤ length xs → length (take n (drop a xs)) ≡ n
 length-part xs a n h = length-take-le n (drop a xs) (simp length-drop (omega arith))
+
+-- a part of a front part is a part of the whole
+pub part-of-take : (a n size : ℕ) (xs : List ℕ) → a + n ≤ size → take n (drop a (take size xs)) ≡ take n (drop a xs)
+part-of-take zero n size xs h = take-take n size xs (omega arith)
+part-of-take (suc a) n size [] h = rw take-nil
+part-of-take (suc a) n zero (x ∷ xs) h = absurd (omega arith)
+part-of-take (suc a) n (suc size) (x ∷ xs) h = part-of-take a n size xs (omega arith)
+
+pub part-of-part : (xs : List ℕ) (start size a n : ℕ) → a + n ≤ size → take n (drop (start + a) xs) ≡ take n (drop a (take size (drop start xs)))
+part-of-part xs start size a n h = sym (part-of-take a n size (drop start xs) h ∙ rw drop-drop)

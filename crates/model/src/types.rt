@@ -64,7 +64,7 @@ pub fn is_structure(ty: u32) -> bool
     FIRST_STRUCTURE <= ty
 }
 
-fn index_of(ty: u32) -> usize
+pub fn index_of(ty: u32) -> usize
     requires { ⌜ 256 ≤ ty ⌝ }
     ensures { λ r. ⌜ r ≡ ty - 256 ⌝ }
 {
@@ -93,7 +93,7 @@ pub fn element_size(structures: &[[u32; 10]], ty: u32) -> u32
 }
 
 /// Word 3 of a structure row, its handle; 0 where there is no such row.
-fn structure_handle(structures: &[[u32; 10]], i: usize) -> u32
+pub fn structure_handle(structures: &[[u32; 10]], i: usize) -> u32
     ensures { λ r. ⌜ r ≡ handle (getD (now (structures .entry)) i []) ⌝ }
 {
     if i < structures.len() {

@@ -1,0 +1,9 @@
+use borrow.Author.Needs.{needs}
+use Rattle.probe.proofs.tables.probe_find_tag.Statement.{statement}
+use Rattle.probe.proofs.tables.probe_find_tag.Tie as tie
+
+returns : tie.Need-returns
+returns c = cc
+
+pub probe-find-tag-spec : {M : Type 1} → statement M
+probe-find-tag-spec = tie.close (tie.spec (λ c κs. search needs) (λ c κs. search needs) returns)

@@ -1,0 +1,10 @@
+use borrow.Author.Needs.{needs}
+use Rattle.probe.proofs.tables.probe_find_template.Statement.{statement}
+use Rattle.probe.proofs.tables.probe_find_template.Tie as tie
+
+returns : tie.Need-returns
+returns c = cc
+
+pub probe-find-template-spec : {M : Type 1} → statement M
+probe-find-template-spec =
+    tie.close (tie.spec (λ c κs. search needs) (λ c κs. search needs) returns)

@@ -1,0 +1,203 @@
+-- A place that stands in its tag, and the moves from it.
+-- Assumes nothing.
+use mathlib.Core.Path.{_≡_, refl, sym, ap, _∙_}
+use mathlib.Core.Bool.{true}
+use mathlib.Core.List.{List, [], _∷_}
+use mathlib.Core.Option.{none}
+use Prim.Native.Nat.{ℕ, _<_, _≤_}
+use native.Mathlib.Omega.{arith}
+use lib.Dec.{leb}
+use lib.ListN.{length}
+use borrow.Author.Tests.{leb-true}
+use Rattle.laws.specs.Pick.{isSome}
+use Rattle.laws.proofs.Chain.{clash}
+use Rattle.laws.proofs.Tests.{among, both-none}
+use Rattle.definition.specs.Bytes.{part}
+use Rattle.definition.specs.Segment.{Segment as Defined, port, class, instance, element, attribute, symbol, step, segmentAt, segmentsFrom, elementOf, nameOf}
+use Rattle.definition.specs.Tables.{Tables, Flags, Row}
+use Rattle.definition.specs.Valid.{t1, valid}
+use Rattle.definition.specs.Resolve.{Target, Resolved, found, turned, Move, indexes, member, stray, moves, index, elementsFrom, moveTo, andThen, walk}
+use Rattle.definition.proofs.Facts.{element-some, tag-in-memory}
+use Rattle.definition.proofs.Inside.{move-stands}
+use Rattle.cip.specs.Statuses.{statusOf}
+use Rattle.path.specs.Paths.{Decoded}
+use Rattle.path.specs.declared.Segment.{Segment}
+use Rattle.path.specs.declared.Segment.the-variants.{Port, Class, Instance, Element, Attribute, Symbol, Invalid}
+use Rattle.path.proofs.Segments.{segments-cut, segments-rest}
+use Rattle.model.specs.Tables.{tablesOf}
+use Rattle.cip.specs.declared.Status.{Status}
+use Rattle.cip.specs.declared.Status.the-variants.{PathError}
+use Rattle.resolve.specs.declared.places.Place.{Place}
+use Rattle.resolve.specs.declared.places.Moved.{Moved}
+use Rattle.resolve.specs.declared.places.Moved.the-variants as moved
+use Rattle.resolve.specs.declared.elements.Run.{Run}
+use Rattle.resolve.specs.declared.moves.Stepped.{Stepped}
+use Rattle.resolve.specs.declared.moves.Stepped.the-variants.{To, Turned}
+use Rattle.resolve.specs.Paths.{left, leading, behind}
+use Rattle.resolve.specs.Places.{placeOf, movedOf, onWalk}
+use Rattle.resolve.specs.Runs.{valuesOf, indexOf, Bounded, Ran}
+use Rattle.resolve.specs.Members.{memberMove}
+use Rattle.resolve.specs.Steps.{Standing, walked, arrived, Onward, Steps}
+use Rattle.resolve.proofs.Lefts.{left-end, left-step, found-at, run-moves, behind-shorter}
+use Rattle.resolve.proofs.Indexes.{index-is}
+use Rattle.resolve.proofs.Rows.{member-of-is}
+
+-- ---- tables
+
+pub memory-small : (t : Tables) (memory : ℕ) → valid t memory ≡ true → memory ≤ 65536
+unfolding valid t1
+memory-small t memory ok = leb-true memory 65536 (among (leb memory 65536) (valid t memory) ok (λ e. simp (e, both-none)))
+
+pub programs-few : (t : Tables) (memory : ℕ) → valid t memory ≡ true → length (t .programs) ≤ 16
+unfolding valid t1
+programs-few t memory ok = leb-true (length (t .programs)) 16 (among (leb (length (t .programs)) 16) (valid t memory) ok (λ e. simp (e, both-none)))
+
+module _ (structures members : List Row) (names : List ℕ) (g : Place) (w : Standing structures members names (placeOf g)) where
+  pub standing-bounded : Bounded structures g
+  standing-bounded =
+      let t = tablesOf structures members (w .programs) (w .tags) (w .others) names (w .tagNames) (w .templates) in
+      let s = w .stands in
+      record {
+        some-bytes = element-some t (w .memory) (w .ok) (g .ty) (s .type);
+        reach = s .reach;
+        within = omega (arith, s .before-end, tag-in-memory t (w .memory) (w .ok) (g .tag) (s .tag), memory-small t (w .memory) (w .ok));
+      }
+
+  pub standing-start : g .start ≤ 65536
+  standing-start = omega (arith, standing-bounded .within)
+
+pub ruleset standings = (standing-bounded, standing-start)
+
+-- ---- a walk looks at structures, members and names alone
+
+then-same : (r : Resolved) (a b : Target → Resolved) → ((g : Target) → a g ≡ b g) → andThen r a ≡ andThen r b
+then-same (found g) a b h = h g
+then-same (turned s) a b h = refl
+
+module _ (structures members programs tags others : List Row) (names tagNames templates : List ℕ) (f : Flags) where
+  abbrev whole : Tables
+  whole = tablesOf structures members programs tags others names tagNames templates
+
+  move-bare : (m : Move) (g : Target) → moveTo whole f m g ≡ moveTo (onWalk structures members names) f m g
+  unfolding index elementsFrom
+  move-bare (indexes es) g = refl
+  move-bare (member name) g = member-of-is whole f name g ∙ sym (member-of-is (onWalk structures members names) f name g)
+  move-bare stray g = refl
+
+  pub walk-bare : (ms : List Move) (g : Target) → walk whole f ms g ≡ walk (onWalk structures members names) f ms g
+  unfolding walk
+  walk-bare [] g = refl
+  walk-bare (m ∷ ms) g = rw (move-bare m g) (then-same (moveTo (onWalk structures members names) f m g) _ _ (walk-bare ms))
+
+-- ---- a step
+
+module _ (structures members : List Row) (names : List ℕ) (f : Flags) (path : List ℕ) (at : ℕ) (g : Place) where
+  abbrev Stepping : Stepped → Type 0
+  Stepping = Steps structures members names f path at (placeOf g)
+
+  abbrev here : Tables
+  here = onWalk structures members names
+
+  -- the segments from here on are one move and what follows it
+  by-move : (m : Move) (next : ℕ) → moves (left path at) ≡ m ∷ moves (left path next) → isSome (segmentsFrom path next) ≡ true
+      → length (left path next) < length (left path at) → Standing structures members names (placeOf g)
+      → (to : Moved) → movedOf to ≡ moveTo here f m (placeOf g) → Stepping (arrived to next)
+  unfolding walk
+  by-move m next ms d h w (moved.To p) e = record {
+    same = rw (ms, ← e);
+    decodes = d;
+    shorter = h;
+    standing = record {
+      programs = w .programs;
+      tags = w .tags;
+      others = w .others;
+      tagNames = w .tagNames;
+      templates = w .templates;
+      memory = w .memory;
+      ok = w .ok;
+      stands =
+          let t = tablesOf structures members (w .programs) (w .tags) (w .others) names (w .tagNames) (w .templates) in
+          rw (move-bare structures members (w .programs) (w .tags) (w .others) names (w .tagNames) (w .templates) f m (placeOf g), ← e)
+          at (move-stands t f (w .memory) (w .ok) m (placeOf g) (w .stands));
+    };
+  }
+  by-move m next ms d h w (moved.Turned s) e = rw (ms, ← e)
+
+  module _ (decodes : isSome (segmentsFrom path at) ≡ true) (s : Segment) (found-here : Decoded path at s) where
+    strayed : (u : Defined) (next : ℕ) → elementOf u ≡ none → nameOf u ≡ none → segmentAt path at ≡ step u next → Stepping (Turned PathError)
+    unfolding walk moves
+    strayed u next n k e = rw (left-step path at decodes u next e, n, k)
+
+    pub step-port : (next : ℕ) → s ≡ Port next → Stepping (Turned PathError)
+    step-port next e = strayed port next refl refl (found-at path at s found-here _ e)
+
+    pub step-class : (x next : ℕ) → s ≡ Class x next → Stepping (Turned PathError)
+    step-class x next e = strayed (class x) next refl refl (found-at path at s found-here _ e)
+
+    pub step-instance : (x next : ℕ) → s ≡ Instance x next → Stepping (Turned PathError)
+    step-instance x next e = strayed (instance x) next refl refl (found-at path at s found-here _ e)
+
+    pub step-attribute : (x next : ℕ) → s ≡ Attribute x next → Stepping (Turned PathError)
+    step-attribute x next e = strayed (attribute x) next refl refl (found-at path at s found-here _ e)
+
+    pub step-invalid : at < length path → s ≡ Invalid → Stepping (Turned PathError)
+    step-invalid h e = clash (cc (rw (segments-cut path at h (found-at path at s found-here _ e)) at decodes))
+
+    module _ (w : Standing structures members names (placeOf g)) (to : Moved) (r : Stepped) where
+      pub step-symbol : (start n next : ℕ) (name : List ℕ) → s ≡ Symbol start n next → name ≡ part path start n
+          → movedOf to ≡ memberMove structures members names f name (placeOf g) → r ≡ arrived to next → Stepping r
+      unfolding moves
+      step-symbol start n next name e p q z =
+          let u = found-at path at s found-here (Symbol start n next) e in
+          let l = left-step path at decodes (symbol (part path start n)) next u in
+          rw z (by-move (member (part path start n)) next (rw l) (segments-rest path at _ next u decodes) (rw l (omega arith)) w to
+          (q ∙ rw p (sym (member-of-is here f (part path start n) (placeOf g)))))
+
+      pub step-element : (x next : ℕ) (run : Run) → s ≡ Element x next → Ran path at run → movedOf to ≡ indexOf structures g (valuesOf run) → r ≡ arrived to (run .next)
+          → Stepping r
+      unfolding moves leading behind
+      step-element x next run e ran q z =
+          let u = found-at path at s found-here (Element x next) e in
+          let l = left-step path at decodes (element x) next u in
+          let rest : left path (run .next) ≡ behind (left path next) = rw l at (ran .rest-is) in
+          rw z (by-move (indexes (leading (left path at))) (run .next) (rw (l, rest) (run-moves x (left path next))) (ran .decodes)
+          (rw (l, rest) (omega (arith, behind-shorter (left path next)))) w to
+          (q ∙ ap (indexOf structures g) (ran .values-are) ∙ index-is g structures members names (leading (left path at))))
+
+pub ruleset steps = (step-port, step-class, step-instance, step-attribute, step-invalid, step-symbol, step-element)
+
+-- ---- the loop
+
+-- the walk from here on is the whole walk
+pub record Following (structures members : List Row) (names : List ℕ) (f : Flags) (path : List ℕ) (from : ℕ) (first : Place) (at : ℕ) (g : Place) : Type 0 where
+  pub decodes : isSome (segmentsFrom path at) ≡ true
+  pub standing : Standing structures members names (placeOf g)
+  pub same : walked structures members names f path at (placeOf g) ≡ walked structures members names f path from (placeOf first)
+
+module _ (structures members : List Row) (names : List ℕ) (f : Flags) (path : List ℕ) (from : ℕ) (first : Place) where
+  abbrev Followed : ℕ → Place → Type 0
+  Followed = Following structures members names f path from first
+
+  pub follow-start : isSome (segmentsFrom path from) ≡ true → Standing structures members names (placeOf first) → Followed from first
+  follow-start d w = record { decodes = d; standing = w; same = refl }
+
+  module _ (at : ℕ) (g : Place) (inv : Followed at g) where
+    pub follow-end : length path ≤ at → found (placeOf g) ≡ walked structures members names f path from (placeOf first)
+    unfolding walk moves
+    follow-end h = rw (left-end path at h) at (inv .same)
+
+    module _ (r : Stepped) (stepped : Steps structures members names f path at (placeOf g) r) where
+      pub follow-turned : (s : Status) → r ≡ Turned s → turned (statusOf s) ≡ walked structures members names f path from (placeOf first)
+      follow-turned s e = (rw e at stepped) ∙ inv .same
+
+      module _ (p : Place) (next : ℕ) (e : r ≡ To p next) where
+        onward : Onward structures members names f path at (placeOf g) (placeOf p) next
+        onward = rw e at stepped
+
+        pub follow-more : Followed next p
+        follow-more = record { decodes = onward .decodes; standing = onward .standing; same = onward .same ∙ inv .same }
+
+        pub follow-less : length (left path next) < length (left path at)
+        follow-less = onward .shorter
+
+pub ruleset follows = (follow-start, follow-end, follow-turned, follow-more, follow-less)

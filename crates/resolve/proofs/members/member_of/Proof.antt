@@ -1,0 +1,20 @@
+use Rattle.resolve.proofs.Rows.{member-laws}
+use borrow.Author.Needs.{needs}
+use Rattle.resolve.proofs.members.member_of.Statement.{statement}
+use Rattle.resolve.proofs.members.member_of.Tie as tie
+
+returns : tie.Need-returns
+returns c = search member-laws
+
+returns-2 : tie.Need-returns-2
+returns-2 c = search member-laws
+
+returns-3 : tie.Need-returns-3
+returns-3 c = search member-laws
+
+returns-4 : tie.Need-returns-4
+returns-4 c = search member-laws
+
+pub member-of-spec : {M : Type 1} → statement M
+member-of-spec =
+    tie.close (tie.spec returns returns-2 returns-3 (λ c κs. search needs) (λ c κs. search needs) returns-4)

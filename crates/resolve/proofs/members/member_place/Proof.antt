@@ -1,0 +1,33 @@
+use Rattle.definition.specs.Resolve.{memberTarget}
+use Rattle.resolve.proofs.Rows.{member-lengths}
+use borrow.Author.Tests.{eq-eqb, ne-eqb}
+use borrow.Author.Needs.{needs}
+use Rattle.resolve.proofs.members.member_place.Statement.{statement}
+use Rattle.resolve.proofs.members.member_place.Tie as tie
+
+returns : tie.Need-returns
+unfolding memberTarget
+returns c = rw (ne-eqb _ _ (c .before .if1 .taken), c .before .before .before .before .before .further .ensures, c .before .before .before .larger .ensures)
+
+returns-2 : tie.Need-returns-2
+unfolding memberTarget
+returns-2 c = rw (eq-eqb _ _ (c .before .before .before .before .before .before .if1 .left), c .before .before .before .before .before .before .before .before .before .before .further .ensures, c .before .before .before .before .before .before .before .before .larger .ensures, c .before .before .wide .ensures, c .before .before .before .larger2 .ensures, member-lengths)
+
+pub member-place-spec : {M : Type 1} → statement M
+member-place-spec =
+    tie.close
+    (tie.spec
+    (λ c. search needs)
+    (λ c κs. search needs)
+    (λ c. search needs)
+    (λ c κs. search needs)
+    (λ c. search needs)
+    (λ c. search needs)
+    returns
+    (λ c. search needs)
+    (λ c. search needs)
+    (λ c κs. search needs)
+    (λ c κs. search needs)
+    (λ c. search needs)
+    (λ c. search needs)
+    returns-2)

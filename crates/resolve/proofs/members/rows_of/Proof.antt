@@ -1,0 +1,37 @@
+use Rattle.resolve.proofs.Rows.{rows}
+use borrow.Author.Needs.{needs}
+use Rattle.resolve.proofs.members.rows_of.Statement.{statement}
+use Rattle.resolve.proofs.members.rows_of.Tie as tie
+
+returns : tie.Need-returns
+returns c = search rows
+
+returns-2 : tie.Need-returns-2
+returns-2 c = search rows
+
+returns-3 : tie.Need-returns-3
+returns-3 c = search rows
+
+pub rows-of-spec : {M : Type 1} → statement M
+rows-of-spec =
+    tie.close
+    (tie.spec
+    (λ c κs. search needs)
+    (λ c κs. search needs)
+    (λ c. search needs)
+    (λ c. search needs)
+    (λ c. search needs)
+    (λ c. search needs)
+    returns
+    (λ c. search needs)
+    (λ c. search needs)
+    (λ c. search needs)
+    (λ c. search needs)
+    (λ c. search needs)
+    returns-2
+    (λ c. search needs)
+    (λ c. search needs)
+    (λ c. search needs)
+    (λ c. search needs)
+    (λ c. search needs)
+    returns-3)

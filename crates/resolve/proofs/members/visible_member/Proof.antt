@@ -1,0 +1,24 @@
+use Rattle.laws.proofs.Chain.{by-call}
+use mathlib.Core.Path.{ap}
+use Rattle.definition.specs.Resolve.{visibleMember, found}
+use borrow.Author.Needs.{needs}
+use Rattle.resolve.proofs.members.visible_member.Statement.{statement}
+use Rattle.resolve.proofs.members.visible_member.Tie as tie
+
+returns : tie.Need-returns
+unfolding visibleMember
+returns c = search by-call
+
+returns-2 : tie.Need-returns-2
+unfolding visibleMember
+returns-2 c = let e = ap found (c .member-place .ensures) in search by-call
+
+pub visible-member-spec : {M : Type 1} → statement M
+visible-member-spec =
+    tie.close
+    (tie.spec
+    (λ c. search needs)
+    (λ c κs. search needs)
+    returns
+    (λ c κs. search needs)
+    returns-2)

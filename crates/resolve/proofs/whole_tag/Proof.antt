@@ -1,0 +1,26 @@
+use Rattle.resolve.specs.Answers.{wholeRow}
+use Rattle.resolve.proofs.Answering.{whole-lengths}
+use borrow.Author.Needs.{needs}
+use Rattle.resolve.proofs.whole_tag.Statement.{statement}
+use Rattle.resolve.proofs.whole_tag.Tie as tie
+
+returns : tie.Need-returns
+unfolding wholeRow
+returns c = rw (c .before .before .before .before .wide .ensures, c .before .wide2 .ensures, whole-lengths _ _ (c .before .before .before .before .before .before .before .before .pre) (c .before .before .before .before .before .before .before .shapes .ensures))
+
+pub whole-tag-spec : {M : Type 1} → statement M
+whole-tag-spec =
+    tie.close
+    (tie.spec
+    (λ c κs. search needs)
+    (λ c. search needs)
+    (λ c. search needs)
+    (λ c κs. search needs)
+    (λ c. search needs)
+    (λ c. search needs)
+    (λ c κs. search needs)
+    (λ c. search needs)
+    (λ c. search needs)
+    (λ c. search needs)
+    (λ c. search needs)
+    returns)

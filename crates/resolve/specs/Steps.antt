@@ -1,0 +1,49 @@
+-- A place that stands in its tag, and what a step of a walk comes to.
+use mathlib.Core.Path.{_≡_}
+use mathlib.Core.Bool.{true}
+use mathlib.Core.List.{List}
+use Prim.Native.Nat.{ℕ, _<_}
+use lib.ListN.{length}
+use Rattle.laws.specs.Pick.{isSome}
+use Rattle.definition.specs.Segment.{segmentsFrom}
+use Rattle.definition.specs.Tables.{Flags, Row}
+use Rattle.definition.specs.Valid.{valid}
+use Rattle.definition.specs.Resolve.{Target, Resolved, turned, moves, walk}
+use Rattle.definition.proofs.Inside.{Stands}
+use Rattle.cip.specs.Statuses.{statusOf}
+use Rattle.model.specs.Tables.{tablesOf}
+use Rattle.resolve.specs.declared.places.Moved.{Moved}
+use Rattle.resolve.specs.declared.places.Moved.the-variants as moved
+use Rattle.resolve.specs.declared.moves.Stepped.{Stepped}
+use Rattle.resolve.specs.declared.moves.Stepped.the-variants.{To, Turned}
+use Rattle.resolve.specs.Paths.{left}
+use Rattle.resolve.specs.Places.{placeOf, onWalk}
+
+-- in some valid tables
+pub record Standing (structures members : List Row) (names : List ℕ) (g : Target) : Type 0 where
+  pub programs : List Row
+  pub tags : List Row
+  pub others : List Row
+  pub tagNames : List ℕ
+  pub templates : List ℕ
+  pub memory : ℕ
+  pub ok : valid (tablesOf structures members programs tags others names tagNames templates) memory ≡ true
+  pub stands : Stands (tablesOf structures members programs tags others names tagNames templates) g
+
+abbrev pub walked : (structures members : List Row) (names : List ℕ) → Flags → (path : List ℕ) (at : ℕ) → Target → Resolved
+walked structures members names f path at g = walk (onWalk structures members names) f (moves (left path at)) g
+
+abbrev pub arrived : Moved → ℕ → Stepped
+arrived (moved.To g) next = To g next
+arrived (moved.Turned s) next = Turned s
+
+-- a walk that goes on from a place
+pub record Onward (structures members : List Row) (names : List ℕ) (f : Flags) (path : List ℕ) (at : ℕ) (g p : Target) (next : ℕ) : Type 0 where
+  pub same : walked structures members names f path next p ≡ walked structures members names f path at g
+  pub decodes : isSome (segmentsFrom path next) ≡ true
+  pub shorter : length (left path next) < length (left path at)
+  pub standing : Standing structures members names p
+
+abbrev pub Steps : (structures members : List Row) (names : List ℕ) → Flags → (path : List ℕ) (at : ℕ) → Target → Stepped → Type 0
+Steps structures members names f path at g (To p next) = Onward structures members names f path at g (placeOf p) next
+Steps structures members names f path at g (Turned s) = turned (statusOf s) ≡ walked structures members names f path at g

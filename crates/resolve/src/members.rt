@@ -1,0 +1,147 @@
+// A structure's members, and the move to one of them.
+use crate::places::Moved;
+use crate::places::Place;
+use cip::Status;
+use model::Flags;
+use model::lookup::Found;
+use model::lookup::wide;
+ghost use mathlib.Core.Path.{_≡_};
+ghost use mathlib.Core.List.{[]};
+ghost use Prim.Native.Nat.{_+_, _≤_, max};
+ghost use lib.ListN.{length, getD, take, drop};
+ghost use Rattle.laws.specs.Pick.{both};
+ghost use Rattle.definition.specs.Lookup.{marked};
+ghost use Rattle.definition.specs.Tables.{membersIn};
+ghost use Rattle.definition.specs.Types.{structureIn};
+ghost use Rattle.definition.specs.Resolve.{memberTarget, visibleMember};
+ghost use Rattle.model.specs.Tables.{flagsOf};
+ghost use Rattle.resolve.specs.Places.{placeOf, movedOf};
+ghost use Rattle.resolve.specs.Members.{amongMembers, memberMove};
+
+/// Rows from a row on; what runs past the end is cut off.
+fn rows_of(members: &[[u32; 9]], start: u32, n: u32) -> &[[u32; 9]]
+    ensures { λ r. ⌜ now r ≡ take n (drop start (now (members .entry))) ⌝ }
+{
+    let a = wide(start);
+    let k = wide(n);
+    if members.len() <= a {
+        return &members[members.len()..];
+    }
+    if members.len() - a < k {
+        return &members[a..];
+    }
+    &members[a..a + k]
+}
+
+/// The members of a structure type.
+pub fn members_of<'a>(structures: &[[u32; 10]], members: &'a [[u32; 9]], ty: u32) -> &'a [[u32; 9]]
+    requires { ⌜ 256 ≤ ty ⌝ }
+    ensures { λ r. ⌜ now r ≡ membersIn (now (members .entry)) (structureIn (now (structures .entry)) ty) ⌝ }
+{
+    let i = model::types::index_of(ty);
+    if i < structures.len() {
+        return rows_of(members, structures[i][5], structures[i][6]);
+    }
+    rows_of(members, 0, 0)
+}
+
+fn larger(a: u32, b: u32) -> u32
+    ensures { λ r. ⌜ r ≡ max a b ⌝ }
+{
+    if a < b { b } else { a }
+}
+
+fn further(start: usize, offset: u32) -> usize
+    requires { ⌜ start ≤ 65536 ⌝ }
+    ensures { λ r. ⌜ r ≡ start + offset ⌝ }
+{
+    start + offset as usize
+}
+
+/// A member of a place; a bit member is one BOOL.
+fn member_place(g: Place, row: &[u32; 9]) -> Place
+    requires { ⌜ g .start ≤ 65536 ⌝ }
+    ensures { λ r. ⌜ placeOf r ≡ memberTarget (placeOf g) (now (row .entry)) ⌝ }
+{
+    let start = further(g.start, row[4]);
+    let access = larger(g.access, row[8]);
+    if row[5] != 8 {
+        return Place {
+            tag: g.tag,
+            start: start,
+            ty: model::types::BOOL,
+            count: 1,
+            n0: 0,
+            n1: 0,
+            n2: 0,
+            bit: row[5],
+            access: access,
+        };
+    }
+    Place {
+        tag: g.tag,
+        start: start,
+        ty: row[2],
+        count: wide(larger(1, row[3])),
+        n0: row[3],
+        n1: 0,
+        n2: 0,
+        bit: row[5],
+        access: access,
+    }
+}
+
+fn is_refused(local: u32, refused: bool) -> bool
+    ensures { λ r. ⌜ r ≡ both (marked local) refused ⌝ }
+{
+    if local == 1 {
+        return refused;
+    }
+    false
+}
+
+/// Locals are not found when refused.
+fn visible_member(flags: Flags, g: Place, row: &[u32; 9]) -> Moved
+    requires { ⌜ g .start ≤ 65536 ⌝ }
+    ensures { λ r. ⌜ movedOf r ≡ visibleMember (flagsOf flags) (placeOf g) (now (row .entry)) ⌝ }
+{
+    if is_refused(row[7], flags.aoi_locals_refused) {
+        return Moved::Turned(Status::PathError);
+    }
+    Moved::To(member_place(g, row))
+}
+
+/// The first visible member of this name among some members.
+fn among(members: &[[u32; 9]], names: &[u8], flags: Flags, name: &[u8], g: Place) -> Moved
+    requires { ⌜ g .start ≤ 65536 ⌝ }
+    ensures { λ r. ⌜ movedOf r ≡ amongMembers (now (members .entry)) (now (names .entry)) (flagsOf flags) (now (name .entry)) (placeOf g) ⌝ }
+{
+    match model::lookup::find_member(members, names, name) {
+        Found::At(i) => visible_member(flags, g, &members[i]),
+        Found::Nothing => Moved::Turned(Status::PathError),
+    }
+}
+
+/// A member needs a structure, no open array and no bit before it.
+pub fn member_of(
+    structures: &[[u32; 10]],
+    members: &[[u32; 9]],
+    names: &[u8],
+    flags: Flags,
+    name: &[u8],
+    g: Place,
+) -> Moved
+    requires { ⌜ g .start ≤ 65536 ⌝ }
+    ensures { λ r. ⌜ movedOf r ≡ memberMove (now (structures .entry)) (now (members .entry)) (now (names .entry)) (flagsOf flags) (now (name .entry)) (placeOf g) ⌝ }
+{
+    if g.ty < model::types::FIRST_STRUCTURE {
+        return Moved::Turned(Status::PathError);
+    }
+    if g.n0 != 0 {
+        return Moved::Turned(Status::PathError);
+    }
+    if g.bit != 8 {
+        return Moved::Turned(Status::PathError);
+    }
+    among(members_of(structures, members, g.ty), names, flags, name, g)
+}
