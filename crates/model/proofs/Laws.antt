@@ -15,7 +15,7 @@ use Rattle.laws.specs.Pick.{pick, isEmpty}
 use Rattle.laws.specs.Put.{put}
 use Rattle.laws.proofs.Chain.{by-test}
 use Rattle.laws.proofs.Put.{put-then}
-use Rattle.definition.specs.Bytes.{le16, part}
+use Rattle.definition.specs.Bytes.{le16}
 use Rattle.definition.specs.Tables.{Row, field, handle, tagType, tagLengths, tagElements, nonzero}
 use Rattle.definition.specs.Types.{atomicSize, isAtomic, isDwordArray, typeHeader}
 use Rattle.definition.specs.Symbols.{listedLengths}
@@ -23,19 +23,19 @@ use Rattle.definition.specs.Resolve.{indexLengths}
 use Rattle.cip.specs.Writes.{Written}
 use Rattle.model.specs.Shapes.{dwordArray, listed3, cut3, indexed3, lengths3}
 
--- ---- a part of a store, cut at its end
+-- ---- a part of a store or of a table, cut at its end
 
-module _ (s : List ℕ) (a start n : ℕ) (from : a ≡ start) where
-  pub part-past : length s ≤ a → take (length s - length s) (drop (length s) s) ≡ part s start n
+module _ {A : Type 0} (s : List A) (a start n : ℕ) (from : a ≡ start) where
+  pub part-past : length s ≤ a → take (length s - length s) (drop (length s) s) ≡ take n (drop start s)
   part-past h = let k : length s ≤ start = omega arith in rw (drop-length, drop-of-length-le s k, take-nil, take-nil)
 
-  pub part-end : (k : ℕ) → k ≡ n → length s - a < k → take (length s - a) (drop a s) ≡ part s start n
+  pub part-end : (k : ℕ) → k ≡ n → length s - a < k → take (length s - a) (drop a s) ≡ take n (drop start s)
   part-end k e h =
       let l : length (drop a s) ≤ length s - a = simp length-drop (omega arith) in
       let m : length (drop a s) ≤ n = omega arith in
       rw (← from, take-all (length s - a), take-all n)
 
-  pub part-inside : (k : ℕ) → k ≡ n → take (a + k - a) (drop a s) ≡ part s start n
+  pub part-inside : (k : ℕ) → k ≡ n → take (a + k - a) (drop a s) ≡ take n (drop start s)
   part-inside k e = simp (add-sub-cancel-left, e, from)
 
 pub ruleset parts = (part-past, part-end, part-inside)

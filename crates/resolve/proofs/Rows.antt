@@ -1,16 +1,14 @@
--- Rows cut at a table's end, the row that a lookup found, and a member's lengths.
+-- The row that a lookup found, a structure's members, and the move to one of them.
 -- Assumes nothing.
 use mathlib.Core.Path.{_≡_, refl, sym, _∙_}
 use mathlib.Core.Logic.{_≢_}
 use mathlib.Core.Bool.{Bool, true, false}
 use mathlib.Core.List.{List, [], _∷_}
 use mathlib.Core.Option.{Option, none, some}
-use Prim.Native.Nat.{ℕ, _+_, _-_, _<_, _≤_}
+use Prim.Native.Nat.{ℕ, _-_, _<_, _≤_}
 use native.Mathlib.Omega.{arith}
-use native.Mathlib.Nat.{add-sub-cancel-left}
 use lib.Dec.{ltb, leb, eqb}
-use lib.ListN.{length, getD, List·getD-eq-default, take, drop, length-drop, drop-of-length-le}
-use lib.Seq.{take-all, take-nil, drop-length}
+use lib.ListN.{length, getD, List·getD-eq-default, take, drop}
 use borrow.Author.Tests.{eqb-true, eqb-false, lt-ltb, le-ltb, le-leb, lt-leb, eq-eqb, ne-eqb}
 use Rattle.laws.specs.Pick.{pick, isEmpty}
 use Rattle.laws.proofs.Chain.{by-test, clash}
@@ -26,21 +24,6 @@ use Rattle.model.specs.declared.lookup.Found.the-variants.{At, Nothing}
 use Rattle.resolve.specs.declared.places.Place.{Place}
 use Rattle.resolve.specs.Places.{placeOf, openLengths}
 use Rattle.resolve.specs.Members.{amongBy, amongMembers, memberMove}
-
-module _ (s : List Row) (a start n : ℕ) (from : a ≡ start) where
-  pub rows-past : length s ≤ a → take (length s - length s) (drop (length s) s) ≡ take n (drop start s)
-  rows-past h = let k : length s ≤ start = omega arith in rw (drop-length, drop-of-length-le s k, take-nil, take-nil)
-
-  pub rows-end : (k : ℕ) → k ≡ n → length s - a < k → take (length s - a) (drop a s) ≡ take n (drop start s)
-  rows-end k e h =
-      let l : length (drop a s) ≤ length s - a = simp length-drop (omega arith) in
-      let m : length (drop a s) ≤ n = omega arith in
-      rw (← from, take-all (length s - a), take-all n)
-
-  pub rows-inside : (k : ℕ) → k ≡ n → take (a + k - a) (drop a s) ≡ take n (drop start s)
-  rows-inside k e = simp (add-sub-cancel-left, e, from)
-
-pub ruleset rows = (rows-past, rows-end, rows-inside)
 
 -- ---- the row that a lookup found
 

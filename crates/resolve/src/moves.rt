@@ -10,9 +10,7 @@ ghost use Prim.Native.Nat.{_<_};
 ghost use lib.ListN.{length};
 ghost use Rattle.laws.specs.Pick.{isSome};
 ghost use Rattle.definition.specs.Segment.{segmentsFrom};
-ghost use Rattle.definition.specs.Resolve.{moves, walk};
 ghost use Rattle.model.specs.Tables.{flagsOf};
-ghost use Rattle.resolve.specs.Paths.{left};
 ghost use Rattle.resolve.specs.Places.{placeOf, movedOf};
 ghost use Rattle.resolve.specs.Steps.{Standing, walked, Steps, arrived};
 

@@ -5,7 +5,7 @@ use model::lookup::Found;
 use path::Segment;
 ghost use mathlib.Core.Path.{_≡_};
 ghost use mathlib.Core.Bool.{true};
-ghost use Prim.Native.Nat.{_≤_, _<_};
+ghost use Prim.Native.Nat.{_≤_};
 ghost use lib.ListN.{length};
 ghost use Rattle.laws.specs.Pick.{isSome};
 ghost use Rattle.definition.specs.Segment.{segmentsFrom};

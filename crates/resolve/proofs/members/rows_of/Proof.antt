@@ -1,16 +1,16 @@
-use Rattle.resolve.proofs.Rows.{rows}
+use Rattle.model.proofs.Laws.{parts}
 use borrow.Author.Needs.{needs}
 use Rattle.resolve.proofs.members.rows_of.Statement.{statement}
 use Rattle.resolve.proofs.members.rows_of.Tie as tie
 
 returns : tie.Need-returns
-returns c = search rows
+returns c = search parts
 
 returns-2 : tie.Need-returns-2
-returns-2 c = search rows
+returns-2 c = search parts
 
 returns-3 : tie.Need-returns-3
-returns-3 c = search rows
+returns-3 c = search parts
 
 pub rows-of-spec : {M : Type 1} → statement M
 rows-of-spec =

@@ -1,0 +1,36 @@
+use native.Mathlib.Omega.{arith}
+use Rattle.tags.proofs.Reading.{bit-sent, part-sent}
+use Rattle.tags.proofs.Aiming.{aimed-first, aimed-inside}
+use borrow.Author.Needs.{needs}
+use Rattle.tags.proofs.reads.send_selected.Statement.{statement}
+use Rattle.tags.proofs.reads.send_selected.Tie as tie
+
+shared-slice-read-bit-of : tie.Need-shared-slice-read-bit-of
+shared-slice-read-bit-of c = aimed-first _ _ _ (c .before .before .before .before .before .before .pre .0)
+
+returns : tie.Need-returns
+returns c = bit-sent _ _ _ _ _ _ _ _ _ _ _ (c .before .before .before .before .before .before .before .if1 .taken) (c .before .before .before .before .before .bit-of .ensures) (c .before .before .send-from .ensures)
+
+mul-size : tie.Need-mul-size
+mul-size c = omega (arith, aimed-inside _ _ _ (c .before .before .before .before .before .before .pre .0) _ (c .before .before .before .before .before .before .pre .2), c .before .before .before .before .before .before .pre .0 .small-memory)
+
+send-from-requires-2 : tie.Need-send-from-requires-2
+send-from-requires-2 c κs = (aimed-inside _ _ _ (c .before .before .before .before .before .before .before .pre .0) _ (c .before .before .before .before .before .before .before .pre .2), omega arith)
+
+returns-2 : tie.Need-returns-2
+returns-2 c = part-sent _ _ _ _ _ _ _ _ _ _ _ (c .before .before .before .before .before .if1 .left) (c .before .before .before .before .before .before .before .before .before .before .pre .0 .size-is) (c .before .before .send-from2 .ensures)
+
+pub send-selected-spec : {M : Type 1} → statement M
+send-selected-spec =
+    tie.close
+    (tie.spec
+    shared-slice-read-bit-of
+    (λ c κs. search needs)
+    (λ c. search needs)
+    (λ c κs. search needs)
+    (λ c. search needs)
+    returns
+    mul-size
+    send-from-requires-2
+    (λ c. search needs)
+    returns-2)

@@ -1,0 +1,17 @@
+use mathlib.Core.Path.{ap}
+use Rattle.laws.proofs.Chain.{chain}
+use Rattle.definition.specs.Reply.{general}
+use Rattle.definition.specs.Fragment.{statusOf}
+use Rattle.tags.proofs.reads.status_of.Statement.{statement}
+use Rattle.tags.proofs.reads.status_of.Tie as tie
+
+returns : tie.Need-returns
+unfolding statusOf
+returns c = ap general (search chain)
+
+returns-2 : tie.Need-returns-2
+unfolding statusOf
+returns-2 c = ap general (search chain)
+
+pub status-of-spec : {M : Type 1} → statement M
+status-of-spec = tie.close (tie.spec returns returns-2)
