@@ -1,0 +1,118 @@
+-- A step of a page: the symbol of the next ID, and its entry.
+-- Assumes nothing.
+use mathlib.Core.Path.{_≡_, refl, sym, ap, _∙_}
+use mathlib.Core.Bool.{true}
+use mathlib.Core.List.{List, [], _∷_, _++_}
+use Prim.Native.Nat.{ℕ, suc, _≤_, _<_}
+use native.Mathlib.Omega.{arith}
+use lib.Dec.{leb, ltb}
+use lib.ListN.{length, getD}
+use borrow.Author.Tests.{leb-true}
+use Rattle.laws.specs.Tests.{every}
+use Rattle.laws.proofs.Tests.{both-true, among, both-none, every-at}
+use Rattle.definition.specs.Bytes.{le32}
+use Rattle.definition.specs.Tables.{Tables, Row, tagName, tagAccess, otherName}
+use Rattle.definition.specs.Valid.{valid, t1, t2, isName}
+use Rattle.definition.specs.Symbols.{Symbol as Defined, tagSymbol, otherSymbol, attributesOf, entryOf, due}
+use Rattle.definition.proofs.Facts.{tag-elements}
+use Rattle.model.specs.Least.{nextIn}
+use Rattle.model.specs.Tables.{tablesOf}
+use Rattle.model.specs.declared.least.Next.{Next}
+use Rattle.model.specs.declared.least.Next.the-variants.{Tag, Other, Nothing}
+use Rattle.model.proofs.Due.{NextDue, none-due, tag-due, other-due, next-due}
+use Rattle.listing.specs.Entries.{made, TagMade, OtherMade, Entered, put-in, left-out, Stepped, more, full, done, SomeValid}
+use Rattle.listing.specs.declared.entries.Symbol.{Symbol}
+use Rattle.listing.specs.declared.pages.Step.{Step}
+use Rattle.listing.specs.declared.pages.Step.the-variants.{Done}
+
+-- a tag's access is at most 3
+access-small : (t : Tables) (memory : ℕ) → valid t memory ≡ true → (i : ℕ) → i < length (t .tags) → tagAccess (getD (t .tags) i []) ≤ 3
+unfolding valid t1
+access-small t memory v i h =
+    leb-true _ 3 (every-at (λ r. leb (tagAccess r) 3) [] (t .tags) i (among (every (λ r. leb (tagAccess r) 3) (t .tags)) _ v (λ e. simp (e, both-none))) h)
+
+module _ (t : Tables) (scope bound : ℕ) (attributes : List ℕ) where
+  tag-inside : (i id : ℕ) → NextDue scope attributes t bound (Tag i id) → i < length (t .tags)
+  tag-inside i id (tag-due h e) = h
+
+  other-inside : (i id : ℕ) → NextDue scope attributes t bound (Other i id) → i < length (t .others)
+  other-inside i id (other-due h e) = h
+
+  module _ (limit used : ℕ) (old : List ℕ) where
+    abbrev Steps : Step → List ℕ → Type 0
+    Steps r new = Stepped t scope attributes limit used bound old r new
+
+    stepped-by : (d : Defined) (id : ℕ) → due t scope attributes bound ≡ entryOf attributes d ∷ due t scope attributes (suc id) → (r : Step) (new : List ℕ)
+        → Entered (entryOf attributes d .bytes) limit used id old r new → Steps r new
+    stepped-by d id e r new (put-in b u l p) = more (entryOf attributes d) (e ∙ ap (λ (k : ℕ). entryOf attributes d ∷ due t scope attributes k) (sym b)) u l p
+    stepped-by d id e r new (left-out h p) = full (entryOf attributes d) (due t scope attributes (suc id)) e h p
+
+    entered-by : (d : Defined) (name : List ℕ) (s : Symbol) (id : ℕ) (r : Step) (new : List ℕ) → made name s ≡ d
+        → Entered (le32 (s .id) ++ attributesOf (made name s) attributes) limit used id old r new → Entered (entryOf attributes d .bytes) limit used id old r new
+    unfolding entryOf
+    entered-by d name s id r new e x = rw (← e) x
+
+    tag-stepped : (name : List ℕ) (s : Symbol) (i id : ℕ) (r : Step) (new : List ℕ) → NextDue scope attributes t bound (Tag i id)
+        → made name s ≡ tagSymbol t (getD (t .tags) i []) → Entered (le32 (s .id) ++ attributesOf (made name s) attributes) limit used id old r new → Steps r new
+    tag-stepped name s i id r new (tag-due h e) m x = stepped-by _ id e r new (entered-by _ name s id r new m x)
+
+    other-stepped : (name : List ℕ) (s : Symbol) (i id : ℕ) (r : Step) (new : List ℕ) → NextDue scope attributes t bound (Other i id)
+        → made name s ≡ otherSymbol t (getD (t .others) i []) → Entered (le32 (s .id) ++ attributesOf (made name s) attributes) limit used id old r new → Steps r new
+    other-stepped name s i id r new (other-due h e) m x = stepped-by _ id e r new (entered-by _ name s id r new m x)
+
+    none-stepped : (new : List ℕ) → NextDue scope attributes t bound Nothing → new ≡ old → Steps Done new
+    none-stepped new (none-due e) p = done e p
+
+module _ (structures tags others : List Row) (names tagNames : List ℕ) (scope bound : ℕ) (found : Next) (is : found ≡ nextIn tags others scope bound) where
+  module _ (members programs : List Row) (templates : List ℕ) (memory : ℕ)
+      (v : valid (tablesOf structures members programs tags others names tagNames templates) memory ≡ true) where
+    abbrev set : Tables
+    set = tablesOf structures members programs tags others names tagNames templates
+
+    due-of : (attributes : List ℕ) (f : Next) → found ≡ f → NextDue scope attributes set bound f
+    due-of attributes f q = rw (← is, q) at (next-due scope attributes set memory v bound)
+
+    pub tag-step : (attributes : List ℕ) (i id limit used : ℕ) (name : List ℕ) (s : Symbol) (old new : List ℕ) (r : Step) → found ≡ Tag i id
+        → name ≡ tagName tagNames (getD tags i []) → TagMade structures (getD tags i []) s
+        → Entered (le32 (s .id) ++ attributesOf (made name s) attributes) limit used id old r new → Stepped set scope attributes limit used bound old r new
+    tag-step attributes i id limit used name s old new r q n m x =
+        let d = due-of attributes (Tag i id) q in
+        let h = tag-inside set scope bound attributes i id d in
+        tag-stepped set scope bound attributes limit used old name s i id r new d
+        (rw n (m members programs tags others names tagNames templates (access-small set memory v i h) (tag-elements set memory v i h .0))) x
+
+    pub other-step : (attributes : List ℕ) (i id limit used : ℕ) (name : List ℕ) (s : Symbol) (old new : List ℕ) (r : Step) → found ≡ Other i id
+        → name ≡ otherName names (getD others i []) → OtherMade (getD others i []) s
+        → Entered (le32 (s .id) ++ attributesOf (made name s) attributes) limit used id old r new → Stepped set scope attributes limit used bound old r new
+    other-step attributes i id limit used name s old new r q n m x =
+        other-stepped set scope bound attributes limit used old name s i id r new (due-of attributes (Other i id) q)
+        (rw n (m structures members programs tags others names tagNames templates)) x
+
+    pub none-step : (attributes : List ℕ) (limit used : ℕ) (old : List ℕ) → found ≡ Nothing → Stepped set scope attributes limit used bound old Done old
+    none-step attributes limit used old q = none-stepped set scope bound attributes limit used old old (due-of attributes Nothing q) refl
+
+  module _ (w : SomeValid structures tags others names tagNames) where
+    pub tag-there : (i id : ℕ) → found ≡ Tag i id → i < length tags
+    tag-there i id q = tag-inside (set (w .members) (w .programs) (w .templates) (w .memory) (w .ok)) scope bound [] i id (due-of (w .members) (w .programs) (w .templates) (w .memory) (w .ok) [] (Tag i id) q)
+
+    pub other-there : (i id : ℕ) → found ≡ Other i id → i < length others
+    other-there i id q = other-inside (set (w .members) (w .programs) (w .templates) (w .memory) (w .ok)) scope bound [] i id (due-of (w .members) (w .programs) (w .templates) (w .memory) (w .ok) [] (Other i id) q)
+
+    -- its name is short
+    pub tag-name : (i id : ℕ) (name : List ℕ) → found ≡ Tag i id → name ≡ tagName tagNames (getD tags i []) → length name ≤ 4294967295
+    unfolding valid t2 isName
+    tag-name i id name q n =
+        let ok = among (every (λ r. isName (tagName tagNames r)) tags) _ (w .ok) (λ e. simp (e, both-none)) in
+        let one = every-at (λ r. isName (tagName tagNames r)) [] tags i ok (tag-there i id q) in
+        let k = tagName tagNames (getD tags i []) in
+        let l = leb-true (length k) 40 (both-true (leb (length k) 40) _ (both-true (ltb 0 (length k)) _ one .1) .0) in
+        rw n (omega (arith, l))
+
+    pub other-name : (i id : ℕ) (name : List ℕ) → found ≡ Other i id → name ≡ otherName names (getD others i []) → length name ≤ 4294967295
+    unfolding valid t2 isName
+    other-name i id name q n =
+        let ok = among (every (λ r. isName (otherName names r)) others) _ (w .ok) (λ e. simp (e, both-none)) in
+        let one = every-at (λ r. isName (otherName names r)) [] others i ok (other-there i id q) in
+        let k = otherName names (getD others i []) in
+        let l = leb-true (length k) 40 (both-true (leb (length k) 40) _ (both-true (ltb 0 (length k)) _ one .1) .0) in
+        rw n (omega (arith, l))

@@ -1,0 +1,18 @@
+use Rattle.listing.specs.Objects.{programBy}
+use Rattle.listing.proofs.Objects.{object-at, object-none}
+use borrow.Author.Needs.{needs}
+use Rattle.listing.proofs.attributes.named_object.Statement.{statement}
+use Rattle.listing.proofs.attributes.named_object.Tie as tie
+
+enum-told : tie.Need-enum-told
+enum-told c = search needs
+
+returns : tie.Need-returns
+returns c = object-at _ _ (programBy (c .before .before .before .before .before .before .args .programs .now) (c .before .before .before .before .before .before .args .names .now) (c .before .before .before .before .before .before .args .name .now)) (c .before .k .given .1) (c .before .before .before .program-of .ensures)
+
+returns-2 : tie.Need-returns-2
+returns-2 c = object-none _ (programBy (c .before .before .before .before .before .args .programs .now) (c .before .before .before .before .before .args .names .now) (c .before .before .before .before .before .args .name .now)) (c .enum-told .given .1) (c .before .before .program-of .ensures)
+
+pub named-object-spec : {M : Type 1} → statement M
+named-object-spec =
+    tie.close (tie.spec (λ c κs. search needs) (λ c. search needs) enum-told returns returns-2)

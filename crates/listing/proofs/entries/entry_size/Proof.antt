@@ -1,0 +1,42 @@
+use mathlib.Core.Path.{_≡_, ap, _∙_}
+use Prim.Native.Nat.{ℕ, _≤_, _-_, _*_, _+_}
+use native.Mathlib.Omega.{arith}
+use native.Mathlib.Nat.{le-antisymm}
+use lib.ListN.{length}
+use Rattle.listing.specs.Entries.{made}
+use Rattle.listing.proofs.Attributed.{attributesTo, attributes-begin, attributes-size}
+use borrow.Author.Needs.{needs}
+use Rattle.listing.proofs.entries.entry_size.Statement.{statement}
+use Rattle.listing.proofs.entries.entry_size.Tie as tie
+
+abbrev Inv-loop : tie.InvT-loop
+Inv-loop name s body n used₀ i₀ used i = (i ≤ n) × (used ≤ 4 + 4294967297 * i) × (used ≡ 4 + length (attributesTo (made name s) body i))
+
+abbrev μ-loop : tie.MeasureT-loop
+μ-loop name s body n used₀ i₀ used i = n - i
+
+loop-holds : tie.Need-loop-holds Inv-loop μ-loop
+loop-holds c = (search needs, search needs, attributes-begin (made (c .before .before .args .name .now) (c .before .before .args .s)) (c .before .before .args .body .now) 4)
+
+loop-again : tie.Need-loop-again Inv-loop μ-loop
+loop-again c = (search needs, omega (arith, c .attribute-size .ensures .1, c .before .before .before .loop .inv .1), attributes-size (made (c .before .before .before .before .before .before .args .name .now) (c .before .before .before .before .before .before .args .s)) (c .before .before .before .before .before .before .args .body .now) (c .before .before .before .loop .i) (c .before .u16-at .result) (c .before .u16-at .ensures) 4 _ _ (c .before .before .before .loop .inv .2) (c .attribute-size .ensures .0))
+
+returns : tie.Need-returns Inv-loop μ-loop
+returns c = c .before .loop .inv .2 ∙ ap (λ (k : ℕ). 4 + length (attributesTo (made (c .before .before .before .before .args .name .now) (c .before .before .before .before .args .s)) (c .before .before .before .before .args .body .now) k)) (le-antisymm (c .before .loop .inv .0) (c .loop-test .left))
+
+pub entry-size-spec : {M : Type 1} → statement M
+entry-size-spec =
+    tie.close
+    (tie.spec
+    Inv-loop
+    μ-loop
+    loop-holds
+    (λ c. search needs)
+    (λ c. search needs)
+    (λ c κs. search needs)
+    (λ c κs. search needs)
+    (λ c. search needs)
+    (λ c. search needs)
+    (λ c. search needs)
+    loop-again
+    returns)

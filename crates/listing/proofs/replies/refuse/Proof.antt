@@ -1,0 +1,14 @@
+use Rattle.listing.proofs.Laws.{refused-large, refused-well}
+use borrow.Author.Needs.{needs}
+use Rattle.listing.proofs.replies.refuse.Statement.{statement}
+use Rattle.listing.proofs.replies.refuse.Tie as tie
+
+returns : tie.Need-returns
+returns c = refused-large _ _ _ _ _ _ (c .before .before .before .before .before .before .pre .1) (c .before .before .before .before .if1 .taken) (c .before .before .fail .ensures)
+
+returns-2 : tie.Need-returns-2
+returns-2 c = refused-well _ _ _ _ _ _ (c .before .before .before .before .before .before .pre .1) (c .before .before .before .before .if1 .left) (c .before .before .fail2 .ensures)
+
+pub refuse-spec : {M : Type 1} → statement M
+refuse-spec =
+    tie.close (tie.spec (λ c κs. search needs) (λ c. search needs) returns (λ c κs. search needs) (λ c. search needs) returns-2)

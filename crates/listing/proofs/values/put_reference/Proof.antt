@@ -1,0 +1,20 @@
+use mathlib.Core.Path.{refl}
+use native.Mathlib.Omega.{arith}
+use Rattle.laws.proofs.Put.{put-then}
+use borrow.Author.Needs.{needs}
+use Rattle.listing.proofs.values.put_reference.Statement.{statement}
+use Rattle.listing.proofs.values.put_reference.Tie as tie
+
+returns : tie.Need-returns
+returns c = put-then _ _ _ _ _ _ _ (c .before .before .before .before .before .before .copy-into .ensures) (c .before .before .put-u16 .ensures) refl (omega arith)
+
+pub put-reference-spec : {M : Type 1} → statement M
+put-reference-spec =
+    tie.close
+    (tie.spec
+    (λ c. search needs)
+    (λ c κs. search needs)
+    (λ c. search needs)
+    (λ c κs. search needs)
+    (λ c. search needs)
+    returns)

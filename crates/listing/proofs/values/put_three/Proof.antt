@@ -1,0 +1,21 @@
+use mathlib.Core.Path.{refl}
+use native.Mathlib.Omega.{arith}
+use Rattle.laws.proofs.Put.{put-then}
+use borrow.Author.Needs.{needs}
+use Rattle.listing.proofs.values.put_three.Statement.{statement}
+use Rattle.listing.proofs.values.put_three.Tie as tie
+
+returns : tie.Need-returns
+returns c = put-then _ _ _ _ _ _ _ (put-then _ _ _ _ _ _ _ (c .before .before .before .before .before .before .before .before .before .before .put-u32 .ensures) (c .before .before .before .before .before .before .put-u322 .ensures) refl (omega arith)) (c .before .before .put-u323 .ensures) refl (omega arith)
+
+pub put-three-spec : {M : Type 1} → statement M
+put-three-spec =
+    tie.close
+    (tie.spec
+    (λ c κs. search needs)
+    (λ c. search needs)
+    (λ c κs. search needs)
+    (λ c. search needs)
+    (λ c κs. search needs)
+    (λ c. search needs)
+    returns)

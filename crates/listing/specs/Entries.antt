@@ -1,0 +1,85 @@
+-- A symbol of the code as the definition's, and its attributes but the name.
+use mathlib.Core.Path.{_≡_}
+use mathlib.Core.Bool.{true}
+use mathlib.Core.List.{List, [], _∷_}
+use Prim.Native.Nat.{ℕ, suc, _+_, _*_, _%_, _≤_, _<_}
+use lib.Dec.{eqb}
+use lib.ListN.{length}
+use Rattle.laws.specs.Pick.{pick}
+use Rattle.laws.specs.Put.{put}
+use Rattle.definition.specs.Bytes.{le16, le32}
+use Rattle.definition.specs.Tables.{Tables, Row, tagName, tagElements, tagAccess, otherName}
+use Rattle.definition.specs.Valid.{valid}
+use Rattle.definition.specs.Page.{Entry}
+use Rattle.definition.specs.Symbols.{Symbol as Defined, tagSymbol, otherSymbol, due}
+use Rattle.model.specs.Tables.{tablesOf}
+use Rattle.listing.specs.declared.pages.Step.{Step}
+use Rattle.listing.specs.declared.pages.Step.the-variants.{More, Full, Done}
+use Rattle.listing.specs.Values.{three}
+use Rattle.listing.specs.declared.entries.Symbol.{Symbol}
+
+abbrev pub made : (name : List ℕ) → Symbol → Defined
+made name s = record {
+  id = s .id;
+  name = name;
+  type = s .kind;
+  control = s .control;
+  size = s .size;
+  lengths = s .first ∷ s .second ∷ s .third ∷ [];
+  access = s .access;
+}
+
+-- `symbolAttribute` of a number other than 1
+unfoldable pub otherAttribute : Symbol → (number : ℕ) → List ℕ
+otherAttribute s a =
+    pick (eqb a 2) (le16 (s .kind))
+    (pick (eqb a 3) (le32 ((s .id * 0x100 + 0x100000) % 4294967296))
+    (pick (eqb a 5) (le32 ((s .id * 0x40 + 0x2000) % 4294967296))
+    (pick (eqb a 6) (le32 (s .control))
+    (pick (eqb a 7) (le16 (s .size))
+    (pick (eqb a 8) (three (s .first) (s .second) (s .third))
+    (s .access ∷ []))))))
+
+-- a tag's row, its name aside, made a symbol; where the tables are valid the access fits a byte, and there are elements
+abbrev pub TagMade : (structures : List Row) (r : Row) → Symbol → Type 0
+TagMade structures r s =
+    (members programs tags others : List Row) (names tagNames templates : List ℕ) → tagAccess r ≤ 3 → 0 < tagElements r
+    → made (tagName tagNames r) s ≡ tagSymbol (tablesOf structures members programs tags others names tagNames templates) r
+
+abbrev pub OtherMade : (r : Row) → Symbol → Type 0
+OtherMade r s =
+    (structures members programs tags others : List Row) (names tagNames templates : List ℕ)
+    → made (otherName names r) s ≡ otherSymbol (tablesOf structures members programs tags others names tagNames templates) r
+
+-- what a step of a page leaves: one entry more and the next bound, or an entry that does not fit, or nothing due
+pub data Stepped (t : Tables) (scope : ℕ) (attributes : List ℕ) (limit used bound : ℕ) (old : List ℕ) : Step → List ℕ → Type 0 where
+  more : {u b : ℕ} {new : List ℕ} (e : Entry) → due t scope attributes bound ≡ e ∷ due t scope attributes b → u ≡ used + length (e .bytes) → u ≤ limit
+      → new ≡ put old used (e .bytes) → Stepped t scope attributes limit used bound old (More u b) new
+  full : {new : List ℕ} (e : Entry) (es : List Entry) → due t scope attributes bound ≡ e ∷ es → limit < used + length (e .bytes)
+      → new ≡ old → Stepped t scope attributes limit used bound old Full new
+  done : {new : List ℕ} → due t scope attributes bound ≡ [] → new ≡ old → Stepped t scope attributes limit used bound old Done new
+
+-- the same of one symbol
+pub data Entered (bytes : List ℕ) (limit used id : ℕ) (old : List ℕ) : Step → List ℕ → Type 0 where
+  put-in : {u b : ℕ} {new : List ℕ} → b ≡ suc id → u ≡ used + length bytes → u ≤ limit → new ≡ put old used bytes → Entered bytes limit used id old (More u b) new
+  left-out : {new : List ℕ} → limit < used + length bytes → new ≡ old → Entered bytes limit used id old Full new
+
+-- what holds of every valid table set with these tables
+abbrev pub EachValid : (structures tags others : List Row) (names tagNames : List ℕ) → (Tables → Type 0) → Type 0
+EachValid structures tags others names tagNames P =
+    (members programs : List Row) (templates : List ℕ) (memory : ℕ) → valid (tablesOf structures members programs tags others names tagNames templates) memory ≡ true
+    → P (tablesOf structures members programs tags others names tagNames templates)
+
+-- there is such a set
+pub record SomeValid (structures tags others : List Row) (names tagNames : List ℕ) : Type 0 where
+  pub members : List Row
+  pub programs : List Row
+  pub templates : List ℕ
+  pub memory : ℕ
+  pub ok : valid (tablesOf structures members programs tags others names tagNames templates) memory ≡ true
+
+-- a step goes on past the ID's four bytes, up to the limit
+abbrev pub Further : (used limit : ℕ) → Step → Type 0
+Further used limit (More u b) = (used + 4 ≤ u) × (u ≤ limit)
+Further used limit Full = Unit {0}
+Further used limit Done = Unit {0}

@@ -1,0 +1,8 @@
+// Attribute lists, symbol pages and template reads.
+pub mod attributes;
+pub mod entries;
+pub mod pages;
+pub mod replies;
+pub mod symbols;
+pub mod templates;
+pub mod values;

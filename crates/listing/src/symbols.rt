@@ -1,0 +1,78 @@
+// Table rows as the symbols that a page lists.
+use crate::entries::Symbol;
+ghost use mathlib.Core.Path.{_≡_};
+ghost use mathlib.Core.List.{[], _∷_};
+ghost use Prim.Native.Nat.{_%_, _≤_};
+ghost use lib.ListN.{length};
+ghost use Rattle.laws.specs.Pick.{pick};
+ghost use Rattle.definition.specs.Tables.{nonzero};
+ghost use Rattle.definition.specs.Lookup.{marked};
+ghost use Rattle.definition.specs.Symbols.{baseTag};
+ghost use Rattle.listing.specs.Entries.{TagMade, OtherMade};
+
+/// Attribute 6 of a tag that is no alias.
+const BASE_TAG: u32 = 0x4000000;
+
+/// Nonzero lengths stand first.
+fn count_lengths(a: u32, b: u32, c: u32) -> u32
+    ensures { λ r. ⌜ (r ≡ length (nonzero (a ∷ b ∷ c ∷ []))) × (r ≤ 3) ⌝ }
+{
+    if a == 0 {
+        return 0;
+    }
+    if b == 0 {
+        return 1;
+    }
+    if c == 0 {
+        return 2;
+    }
+    3
+}
+
+fn control_of(alias: u32) -> u32
+    ensures { λ r. ⌜ r ≡ pick (marked alias) 0 baseTag ⌝ }
+{
+    if alias == 1 {
+        return 0;
+    }
+    BASE_TAG
+}
+
+fn low8(x: u32) -> u8
+    ensures { λ r. ⌜ r ≡ x % 256 ⌝ }
+{
+    (x % 256) as u8
+}
+
+/// A tag; its access is at most 3 where the tables are valid.
+pub fn tag_symbol(structures: &[[u32; 10]], row: &[u32; 12]) -> Symbol
+    ensures { λ r. ⌜ TagMade (now (structures .entry)) (now (row .entry)) r ⌝ }
+{
+    let shapes = model::shapes::shapes(row);
+    let listed = shapes[0];
+    Symbol {
+        id: row[3],
+        kind: model::types::symbol_type(structures, row[4], count_lengths(row[5], row[6], row[7])),
+        control: control_of(row[10]),
+        size: model::types::element_size(structures, row[4]),
+        first: listed[0],
+        second: listed[1],
+        third: listed[2],
+        access: low8(row[9]),
+    }
+}
+
+pub fn other_symbol(row: &[u32; 5]) -> Symbol
+    ensures { λ r. ⌜ OtherMade (now (row .entry)) r ⌝ }
+{
+    Symbol {
+        id: row[3],
+        kind: row[4],
+        control: 0,
+        size: 0,
+        first: 0,
+        second: 0,
+        third: 0,
+        access: 0,
+    }
+}

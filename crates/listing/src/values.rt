@@ -1,0 +1,83 @@
+// The value of an attribute, and its bytes.
+ghost use mathlib.Core.Path.{_≡_};
+ghost use mathlib.Core.List.{[], _∷_, _++_};
+ghost use Prim.Native.Nat.{_+_, _≤_};
+ghost use lib.ListN.{length};
+ghost use Rattle.laws.specs.Put.{put};
+ghost use Rattle.cip.specs.Writes.{Written};
+ghost use Rattle.listing.specs.Values.{valueBytes, three, reference};
+
+/// An attribute's value by its layout.
+pub enum Value {
+    Byte(u8),
+    Short(u16),
+    Long(u32),
+    Three(u32, u32, u32),
+    /// A program, by the instance of its object.
+    Reference(u16),
+    Unknown,
+}
+
+/// A path of three words: class 0x68, and an instance of 16 bits, which follows.
+const PROGRAM_PATH: [u8; 5] = [0x03, 0x20, 0x68, 0x25, 0x00];
+
+fn put_three(buf: &mut [u8], at: usize, a: u32, b: u32, c: u32)
+    requires { ⌜ at + 12 ≤ length (now buf) ⌝ }
+    ensures { λ _. ⌜ now (buf .exit) ≡ put (now (buf .entry)) at (three a b c) ⌝ }
+{
+    cip::put_u32(buf, at, a);
+    cip::put_u32(buf, at + 4, b);
+    cip::put_u32(buf, at + 8, c);
+}
+
+fn put_reference(buf: &mut [u8], at: usize, instance: u16)
+    requires { ⌜ at + 7 ≤ length (now buf) ⌝ }
+    ensures { λ _. ⌜ now (buf .exit) ≡ put (now (buf .entry)) at (reference instance) ⌝ }
+{
+    let path = PROGRAM_PATH;
+    cip::copy_into(buf, at, &path);
+    cip::put_u16(buf, at + 5, instance);
+}
+
+/// The bytes of a value; none of an unknown one.
+pub fn value_size(v: Value) -> usize
+    ensures { λ r. ⌜ r ≡ length (valueBytes v) ⌝ }
+{
+    match v {
+        Value::Byte(_) => 1,
+        Value::Short(_) => 2,
+        Value::Long(_) => 4,
+        Value::Three(_, _, _) => 12,
+        Value::Reference(_) => 7,
+        Value::Unknown => 0,
+    }
+}
+
+pub fn put_value(buf: &mut [u8], at: usize, v: Value) -> usize
+    requires { ⌜ at + length (valueBytes v) ≤ length (now buf) ⌝ }
+    ensures { λ r. ⌜ Written at (valueBytes v) (now (buf .entry)) r (now (buf .exit)) ⌝ }
+{
+    match v {
+        Value::Byte(x) => {
+            cip::put_u8(buf, at, x);
+            return 1;
+        }
+        Value::Short(x) => {
+            cip::put_u16(buf, at, x);
+            return 2;
+        }
+        Value::Long(x) => {
+            cip::put_u32(buf, at, x);
+            return 4;
+        }
+        Value::Three(a, b, c) => {
+            put_three(buf, at, a, b, c);
+            return 12;
+        }
+        Value::Reference(x) => {
+            put_reference(buf, at, x);
+            return 7;
+        }
+        Value::Unknown => 0,
+    }
+}
