@@ -159,13 +159,33 @@ pub mod oracle {
 
         /// Writes the tags' bytes back to where the rows have them in tag memory.
         pub fn store(&self, t: &Tables, memory: &mut [u8]) {
-            let mut next = vec![0; t.programs.len() + 1];
-            for r in &t.tags {
-                let scope = r[0] as usize;
-                let data = &self.scope(scope.checked_sub(1)).tags[next[scope]].data;
-                next[scope] += 1;
-                memory[r[11] as usize..][..data.len()].copy_from_slice(data);
+            for (scope, place, offset) in places(t) {
+                let data = &self.scope(scope.checked_sub(1)).tags[place].data;
+                memory[offset..][..data.len()].copy_from_slice(data);
             }
         }
+
+        /// Takes the tags' bytes from there.
+        pub fn load(&mut self, t: &Tables, memory: &[u8]) {
+            for (scope, place, offset) in places(t) {
+                let scope = match scope.checked_sub(1) {
+                    None => &mut self.controller,
+                    Some(p) => &mut self.programs[p].scope,
+                };
+                let data = &mut scope.tags[place].data;
+                let bytes = data.len();
+                data.copy_from_slice(&memory[offset..][..bytes]);
+            }
+        }
+    }
+
+    /// Of each tag its scope, its place among the tags of that scope, and its offset in tag memory.
+    fn places(t: &Tables) -> impl Iterator<Item = (usize, usize, usize)> {
+        let mut next = vec![0; t.programs.len() + 1];
+        t.tags.iter().map(move |r| {
+            let scope = r[0] as usize;
+            next[scope] += 1;
+            (scope, next[scope] - 1, r[11] as usize)
+        })
     }
 }

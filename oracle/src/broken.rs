@@ -47,10 +47,20 @@ const BREAKS: [(&str, Break); 37] = [
     ("encoding: members past the table", |r, s| more(r, &mut s.tables.structures, 5, 512)),
 ];
 
+/// Those that take many rows or bytes.
+const LONG_BREAKS: [(&str, Break); 3] = [
+    ("T1 tags", |_, s| tags(s)),
+    ("T1 tag memory", |_, s| s.memory.resize(65_537, 0).into()),
+    ("T1 template store", |_, s| s.tables.templates.resize(65_537, 0).into()),
+];
+
 /// Breaks a copy of a set in one place (17 programs are always possible, so this ends).
-pub fn broken(rng: &mut Rng, set: &Set) -> (&'static str, Set) {
+pub fn broken(rng: &mut Rng, set: &Set, long: bool) -> (&'static str, Set) {
     loop {
-        let (what, apply) = rng.pick(&BREAKS);
+        let (what, apply) = match long && rng.chance(5) {
+            true => rng.pick(&LONG_BREAKS),
+            false => rng.pick(&BREAKS),
+        };
         let mut copy = set.clone();
         let done = apply(rng, &mut copy).is_some();
         if done && crate::valid::valid(&copy.tables, &copy.memory).is_err() {
@@ -104,6 +114,19 @@ fn programs(_: &mut Rng, set: &mut Set) -> Option<()> {
         t.programs.push([t.names.len() as u32, 4]);
         let name = [b'q', b'a' + t.programs.len() as u8, b'!', b'7'];
         t.names.extend(name);
+    }
+    Some(())
+}
+
+/// 1,025 tags, the new ones of a byte each, whose names and IDs differ.
+fn tags(set: &mut Set) -> Option<()> {
+    let t = &mut set.tables;
+    for id in (0x7000_0000..).take(1025 - t.tags.len()) {
+        let name = format!("~{id:X}~");
+        let (start, offset) = (t.tag_names.len() as u32, set.memory.len() as u32);
+        t.tags.push([0, start, name.len() as u32, id, 0xC1, 0, 0, 0, 1, 0, 0, offset]);
+        t.tag_names.extend(name.into_bytes());
+        set.memory.push(0);
     }
     Some(())
 }

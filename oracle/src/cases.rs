@@ -42,6 +42,8 @@ pub struct Wanted {
     pub most: usize,
     /// Of a hundred messages, how many are refused at the entry.
     pub refused: u32,
+    /// Messages and buffers of 65,535 bytes and more are among them, and tables broken by their size.
+    pub long: bool,
 }
 
 /// A table set with its cases, each starting from the tag memory that the one before it left; and what was broken
@@ -52,28 +54,52 @@ pub struct Run {
     pub broken: Option<&'static str>,
 }
 
-/// The valid table set of a seed and the reference's answers on it.
+/// The longest message and the largest limit that the entry lets pass.
+const MOST: usize = 65_535;
+
+/// The small valid table set of a seed and the reference's answers on it.
 pub fn run(seed: u64, wanted: Wanted) -> Run {
     let mut rng = Rng::new(seed);
-    let set = tables::set(&mut rng);
+    let set = sound(seed, tables::set(&mut rng));
+    let mut cases = Vec::with_capacity(wanted.messages);
+    talk(&set, &mut rng, &mut Rng::new(!seed), wanted, |case| cases.push(case));
+    Run { set, cases, broken: None }
+}
+
+/// A generated set, held to T1 to T6.
+pub fn sound(seed: u64, set: Set) -> Set {
     if let Err(what) = valid::valid(&set.tables, &set.memory) {
         panic!("seed {seed}: the generated tables break a rule: {what}");
     }
+    set
+}
+
+/// Makes the cases of a valid table set, each starting from the tag memory that the one before it left: `rng` gives
+/// messages and limits, `entry` buffers and refusals. Answers how many reads, template reads and symbol pages went on to
+/// their end.
+pub fn talk(set: &Set, rng: &mut Rng, entry: &mut Rng, wanted: Wanted, mut each: impl FnMut(Case)) -> [u64; 3] {
     let mut logix = Logix::from_rows(&set.tables, set.flags, &set.memory);
     let mut memory = set.memory.clone();
-    let mut entry = Rng::new(!seed);
-    let mut talk = Talk::new(&set, &mut rng, wanted.most);
-    let mut cases = Vec::with_capacity(wanted.messages);
-    while cases.len() < wanted.messages {
-        let message = talk.message();
+    let mut talk = Talk::new(set, rng, wanted.most);
+    let mut made = 0;
+    while made < wanted.messages {
+        let mut message = talk.message();
+        if wanted.long && entry.below(2000) == 0 {
+            message.resize(MOST - entry.below(2) as usize, entry.byte());
+        }
         if !tally::in_domain(&message) {
             continue;
         }
+        made += 1;
         if entry.chance(wanted.refused) {
-            cases.push(refused(&mut entry, message, &memory, false));
+            each(refused(entry, message, &memory, false, wanted.long));
             continue;
         }
-        let limit = talk.limit(|| logix.clone().answer(&message, 65_535).len());
+        let limit = talk.limit(|| {
+            let whole = logix.answer(&message, MOST).len();
+            logix.load(&set.tables, &memory);
+            whole
+        });
         let reply = logix.answer(&message, limit);
         talk.heard(&reply);
         let before = memory.clone();
@@ -81,39 +107,44 @@ pub fn run(seed: u64, wanted: Wanted) -> Run {
         let room = limit.max(8) + entry.below(4) as usize;
         let (fill, after) = (entry.byte() | 1, memory.clone());
         let expected = Expected::Replied(reply);
-        cases.push(Case { message, limit, room, fill, expected, before, after });
+        each(Case { message, limit, room, fill, expected, before, after });
     }
-    Run { set, cases, broken: None }
+    talk.finished
 }
 
-/// The same set broken in one place: refused with number 4, unless the limit or the buffer comes first.
-pub fn run_broken(seed: u64, set: &Set) -> Run {
+/// The same set broken in one place: refused with number 4, unless the message, the limit or the buffer comes first.
+pub fn run_broken(seed: u64, set: &Set, long: bool) -> Run {
     let mut rng = Rng::new(seed ^ 0x5EED);
-    let (what, set) = broken(&mut rng, set);
+    let (what, set) = broken(&mut rng, set, long);
     let mut cases = Vec::new();
     for _ in 0..2 {
         let mut other = Rng::new(rng.next());
         let message = Talk::new(&set, &mut other, 100).message_of_any_tables();
-        cases.push(refused(&mut rng, message, &set.memory, true));
+        cases.push(refused(&mut rng, message, &set.memory, true, long));
     }
     Run { set, cases, broken: Some(what) }
 }
 
-/// A case that the entry refuses: limit above 65,535, buffer below max(8, limit), tables broken, in this order.
-fn refused(rng: &mut Rng, message: Vec<u8>, memory: &[u8], broken: bool) -> Case {
+/// A case that the entry refuses: message or limit above 65,535, buffer below max(8, limit), tables broken, in this order.
+fn refused(rng: &mut Rng, mut message: Vec<u8>, memory: &[u8], broken: bool, long: bool) -> Case {
+    if long && rng.chance(25) {
+        message.resize(MOST + rng.within(1, 3) as usize, rng.byte());
+    }
     let limit = match rng.below(5) {
         0 => *rng.pick(&[65_536, 65_537, 1_000_000]),
         _ => *rng.pick(&[0, 4, 7, 8, 9, 60]),
     };
     let enough = limit.max(8);
-    let room = match broken && rng.chance(80) && enough < 1000 {
+    let otherwise = broken || message.len() > MOST || long && limit > MOST;
+    let room = match otherwise && rng.chance(80) && enough < if long { 100_000 } else { 1000 } {
         true => enough + rng.below(3) as usize,
         false => rng.below(enough.min(60) as u32) as usize,
     };
-    let number = match (limit > 65_535, room < enough) {
-        (true, _) => 2,
-        (false, true) => 3,
-        (false, false) => 4,
+    let number = match (message.len() > MOST, limit > MOST, room < enough) {
+        (true, _, _) => 1,
+        (false, true, _) => 2,
+        (false, false, true) => 3,
+        (false, false, false) => 4,
     };
     Case {
         message,

@@ -3,7 +3,7 @@
 //!   leaves SEED PATHS SETS     PATHS generated paths beside the set ones, and SETS table sets; exit status 1 if an
 //!                              answer differs
 
-// what only the other driver uses of the generators
+// what only the other drivers use of the generators
 #![allow(dead_code)]
 
 mod findings;

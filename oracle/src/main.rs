@@ -4,6 +4,9 @@
 //!   driver antt SEED SETS MESSAGES DIR PER CHUNK write the cases as antt crates below DIR: PER table sets to a crate,
 //!                                                CHUNK cases to a theorem
 
+// what only the other drivers use of the generators
+#![allow(dead_code)]
+
 mod broken;
 mod cases;
 mod messages;
@@ -22,14 +25,14 @@ use tally::Tally;
 fn count(seed: u64, sets: u64, messages: usize) {
     let mut tally = Tally::default();
     let (mut longest, mut broken) = (0, BTreeMap::new());
-    let wanted = Wanted { messages, most: 65_535, refused: 0 };
+    let wanted = Wanted { messages, most: 65_535, refused: 0, long: false };
     for index in 0..sets {
         let run = run(seed + index, wanted);
         for case in &run.cases {
             tally.note(&case.message, case.reply(), run.set.flags.micro800);
             longest = longest.max(case.reply().len());
         }
-        *broken.entry(run_broken(seed + index, &run.set).broken).or_insert(0) += 1;
+        *broken.entry(run_broken(seed + index, &run.set, false).broken).or_insert(0) += 1;
     }
     println!("seeds {seed} to {}: {} messages", seed + sets - 1, sets * messages as u64);
     tally.print();
@@ -46,7 +49,7 @@ fn antt_crate(seed: u64, from: u64, to: u64, wanted: Wanted, dir: &Path, chunk: 
     let (mut mods, mut lines) = (String::new(), String::new());
     for index in from..to {
         let sound = run(seed + index, wanted);
-        let broken = run_broken(seed + index, &sound.set);
+        let broken = run_broken(seed + index, &sound.set, false);
         let runs = [(String::new(), sound), (String::from("-broken-"), broken)];
         let module = format!("Set{}", seed + index);
         scratch::write(&proofs.join(format!("{module}.antt")), &scratch::module(&runs, chunk));
@@ -63,7 +66,7 @@ fn antt_crate(seed: u64, from: u64, to: u64, wanted: Wanted, dir: &Path, chunk: 
 }
 
 fn antt(seed: u64, sets: u64, messages: usize, dir: &Path, per: u64, chunk: usize) {
-    let wanted = Wanted { messages, most: 520, refused: 4 };
+    let wanted = Wanted { messages, most: 520, refused: 4, long: false };
     for from in (0..sets).step_by(per as usize) {
         println!("{}", antt_crate(seed, from, sets.min(from + per), wanted, dir, chunk));
     }

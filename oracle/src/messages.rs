@@ -20,11 +20,15 @@ pub struct Talk<'a> {
     most: usize,
     sent: Option<Again>,
     next: Option<(Vec<u8>, Again)>,
+    /// Whether the request at hand goes on from a status 0x06.
+    going_on: bool,
+    /// Reads, template reads and symbol pages that went on to their end.
+    pub finished: [u64; 3],
     /// The limit decides about the request at hand: it is to be close to the reply's length.
     tight: bool,
 }
 
-fn request(service: u8, path: &[u8], data: &[u8]) -> Vec<u8> {
+pub fn request(service: u8, path: &[u8], data: &[u8]) -> Vec<u8> {
     [&[service, (path.len() / 2) as u8], path, data].concat()
 }
 
@@ -34,14 +38,14 @@ fn le16(n: u32) -> [u8; 2] {
 
 impl<'a> Talk<'a> {
     pub fn new(set: &'a Set, rng: &'a mut Rng, most: usize) -> Self {
-        Talk { set, rng, most, sent: None, next: None, tight: false }
+        Talk { set, rng, most, sent: None, next: None, going_on: false, finished: [0; 3], tight: false }
     }
 
     /// The next request.
     pub fn message(&mut self) -> Vec<u8> {
-        (self.sent, self.tight) = (None, false);
+        (self.sent, self.tight, self.going_on) = (None, false, false);
         if let Some((message, again)) = self.next.take().filter(|_| self.rng.chance(85)) {
-            self.sent = Some(again);
+            (self.sent, self.going_on) = (Some(again), true);
             return message;
         }
         let message = match self.rng.below(100) {
@@ -82,6 +86,14 @@ impl<'a> Talk<'a> {
     /// Looks at a reply: after a 0x06 the next request may go on from there.
     pub fn heard(&mut self, reply: &[u8]) {
         let Some(again) = self.sent.take() else { return };
+        if self.going_on && reply.get(2) == Some(&0) {
+            let kind = match again {
+                Again::Read { .. } => 0,
+                Again::Template { .. } => 1,
+                Again::Page { .. } => 2,
+            };
+            self.finished[kind] += 1;
+        }
         if reply.get(2) != Some(&0x06) {
             return;
         }
@@ -482,7 +494,7 @@ fn counted(count: u32, numbers: &[u16]) -> Vec<u8> {
 }
 
 /// A symbol page of these attributes from an ID on, in the widest form.
-fn page(prefix: &[u8], start: u32, attributes: &[u16]) -> Vec<u8> {
+pub fn page(prefix: &[u8], start: u32, attributes: &[u16]) -> Vec<u8> {
     let mut path = prefix.to_vec();
     path.extend([0x20, 0x6B, 0x26, 0]);
     path.extend(start.to_le_bytes());

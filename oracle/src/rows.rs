@@ -8,6 +8,19 @@ pub struct Flags {
     pub micro800: bool,
 }
 
+impl Flags {
+    /// The flags as the entry points of the archive take them.
+    pub fn bits(self) -> u32 {
+        let flags = [self.multi_service, self.instance_ids, self.aoi_locals_refused, self.micro800];
+        flags.iter().enumerate().map(|(bit, &on)| u32::from(on) << bit).sum()
+    }
+
+    pub fn from_bits(bits: u32) -> Self {
+        let on = |bit: u32| bits >> bit & 1 == 1;
+        Flags { multi_service: on(0), instance_ids: on(1), aoi_locals_refused: on(2), micro800: on(3) }
+    }
+}
+
 #[derive(Clone, Debug, Default, PartialEq, Eq)]
 pub struct Tables {
     /// name start, name length, template ID, handle, size, first member, member count, AOI mark,

@@ -1,4 +1,4 @@
-//! Generates table sets that are valid by T1 to T6: small, and rich in what the services tell apart.
+//! Generates table sets that are valid by T1 to T6: mostly small, and rich in what the services tell apart.
 
 use crate::rng::Rng;
 use ciplink_sim::rows::{DWORD, Flags, Tables};
@@ -34,17 +34,73 @@ const WORDS: [&str; 16] = [
     " ~",
 ];
 const IDS: [u32; 9] = [1, 2, 3, 0xFE, 0x100, 0xFFFF, 0x1_0000, 0xFFFF_FFFE, 0xFFFF_FFFF];
-/// Tag memory stays below this many bytes.
-const MEMORY: u32 = 200;
+/// How large the tables of a set may get; a list has the numbers that one is taken from.
+pub struct Size {
+    structures: &'static [u32],
+    /// Bytes of a structure.
+    bytes: &'static [u32],
+    /// Members in all, and of one structure.
+    members: (u32, u32),
+    /// Bytes of the template store.
+    templates: &'static [u32],
+    programs: &'static [u32],
+    tags: &'static [u32],
+    /// Fewer other symbols than this.
+    others: u32,
+    /// The tags' bytes together.
+    memory: u32,
+    /// Bytes of a long array; 0: there is none, and names are not numbered.
+    long: u32,
+}
 
+pub const SMALL: Size = Size {
+    structures: &[0, 1, 1, 2, 2, 3, 3, 4],
+    bytes: &[1, 2, 4, 8, 12, 16, 20, 24, 36, 5, 7],
+    members: (10, 6),
+    templates: &[0, 8, 30, 61, 90],
+    programs: &[0, 1, 2, 2, 3, 3],
+    tags: &[0, 1, 2, 3, 4, 5, 5, 6, 6, 7, 7, 8, 9, 9, 10, 12],
+    others: 7,
+    memory: 200,
+    long: 0,
+};
+pub const MEDIUM: Size = Size {
+    structures: &[4, 8, 12],
+    bytes: &[4, 8, 12, 16, 20, 36, 7, 88, 200],
+    members: (60, 12),
+    templates: &[90, 600, 3000],
+    programs: &[2, 5],
+    tags: &[30, 60, 100],
+    others: 20,
+    memory: 4000,
+    long: 1000,
+};
+/// Up to the bounds of T1.
+pub const LARGE: Size = Size {
+    structures: &[40, 64],
+    bytes: &[1, 2, 4, 4, 4, 8, 8, 12, 12, 16, 20, 5, 7, 36, 88, 400, 65_535],
+    members: (512, 20),
+    templates: &[5000, 65_536],
+    programs: &[9, 16, 16],
+    tags: &[600, 1500, 3000, 3000],
+    others: 65,
+    memory: 65_536,
+    long: 4500,
+};
+
+/// A small set.
 pub fn set(rng: &mut Rng) -> Set {
+    sized(rng, &SMALL)
+}
+
+pub fn sized(rng: &mut Rng, size: &Size) -> Set {
     let mut tables = Tables::default();
-    structures(rng, &mut tables);
-    templates(rng, &mut tables);
-    programs(rng, &mut tables);
-    tags(rng, &mut tables);
-    let length = place(rng, &mut tables);
-    others(rng, &mut tables);
+    structures(rng, &mut tables, size);
+    templates(rng, &mut tables, size);
+    programs(rng, &mut tables, size);
+    tags(rng, &mut tables, size);
+    let length = place(rng, &mut tables, size);
+    others(rng, &mut tables, size);
     let flags = Flags {
         multi_service: rng.chance(85),
         instance_ids: rng.chance(80),
@@ -66,6 +122,16 @@ pub fn name(rng: &mut Rng) -> Vec<u8> {
             printable(rng, length)
         }
     }
+}
+
+/// A name; in larger tables mostly with a number behind it, since so many have to differ.
+fn new_name(rng: &mut Rng, size: &Size) -> Vec<u8> {
+    let mut word = name(rng);
+    if size.long > 0 && rng.chance(85) {
+        word.truncate(36);
+        word.extend(rng.below(5000).to_string().into_bytes());
+    }
+    word
 }
 
 fn printable(rng: &mut Rng, length: u32) -> Vec<u8> {
@@ -94,27 +160,32 @@ fn mark(rng: &mut Rng, percent: u32) -> u32 {
     u32::from(rng.chance(percent))
 }
 
-fn structures(rng: &mut Rng, t: &mut Tables) {
+fn structures(rng: &mut Rng, t: &mut Tables, sizes: &Size) {
     let ids = [0x100, 0x101, 0xFCE, rng.below(0x1_0000), 0xFFFF, 0];
-    for index in 0..*rng.pick(&[0, 1, 1, 2, 2, 3, 3, 4]) {
+    let (most, of_one) = sizes.members;
+    for index in 0..*rng.pick(sizes.structures) {
         let word = name(rng);
         let [start, length] = keep(rng, &mut t.names, &word);
-        let size = *rng.pick(&[1, 2, 4, 8, 12, 16, 20, 24, 36, 5, 7]);
+        let size = *rng.pick(sizes.bytes);
         let aoi = mark(rng, 35);
         let (first, count) = shared(rng, t, size).unwrap_or_else(|| {
             let first = t.members.len() as u32;
-            let room = 10 - first.min(10);
-            for _ in 0..rng.below(room.min(6) + 1) {
+            let room = most - first.min(most);
+            for _ in 0..rng.below(room.min(of_one) + 1) {
                 let row = member(rng, t, index, size, first, aoi);
                 t.members.push(row);
             }
             (first, t.members.len() as u32 - first)
         });
         let handle = if rng.chance(10) { 0x02A0 } else { rng.below(0x1_0000) };
-        let row = [start, length, *rng.pick(&ids), handle, size, first, count, aoi, 0, 0];
+        let id = match sizes.long > 0 && rng.chance(70) {
+            true => rng.below(0x1_0000),
+            false => *rng.pick(&ids),
+        };
+        let row = [start, length, id, handle, size, first, count, aoi, 0, 0];
         t.structures.push(row);
     }
-    if rng.chance(10) && t.members.len() < 10 {
+    if rng.chance(10) && t.members.len() < most as usize {
         // a member of no structure
         let row = member(rng, t, 0, 8, t.members.len() as u32, 0);
         t.members.push(row);
@@ -163,8 +234,8 @@ fn member(rng: &mut Rng, t: &mut Tables, index: u32, size: u32, first: u32, aoi:
     [start, length, ty, array, offset, bit, mark(rng, 12), local, access(rng)]
 }
 
-fn templates(rng: &mut Rng, t: &mut Tables) {
-    let length = *rng.pick(&[0, 8, 30, 61, 90]);
+fn templates(rng: &mut Rng, t: &mut Tables, size: &Size) {
+    let length = *rng.pick(size.templates);
     t.templates = rng.bytes(length);
     for s in &mut t.structures {
         s[8] = rng.below(length + 1);
@@ -172,11 +243,12 @@ fn templates(rng: &mut Rng, t: &mut Tables) {
     }
 }
 
-fn programs(rng: &mut Rng, t: &mut Tables) {
+fn programs(rng: &mut Rng, t: &mut Tables, size: &Size) {
     let mut taken = BTreeSet::new();
-    for _ in 0..*rng.pick(&[0, 1, 2, 2, 3, 3]) {
+    for _ in 0..*rng.pick(size.programs) {
         let word = match rng.below(3) {
             0 => name(rng),
+            1 if size.long > 0 => new_name(rng, size),
             _ => rng.pick(&["Main", "Aux", "P", "program:", "A"]).as_bytes().to_vec(),
         };
         if taken.insert(word.to_ascii_lowercase()) {
@@ -192,7 +264,12 @@ fn lengths(rng: &mut Rng) -> Vec<u32> {
 }
 
 /// A type, the lengths and the element count of a tag.
-fn tag_type(rng: &mut Rng, t: &Tables) -> (u32, Vec<u32>, u32) {
+fn tag_type(rng: &mut Rng, t: &Tables, size: &Size) -> (u32, Vec<u32>, u32) {
+    if size.long > 0 && rng.chance(1) {
+        let ty = *rng.pick(&ATOMICS);
+        let elements = rng.within(1, size.long / size_of(t, ty));
+        return (ty, vec![elements], elements);
+    }
     let mut lengths = lengths(rng);
     let ty = match rng.below(10) {
         0..=3 if !t.structures.is_empty() => 0x100 + rng.below(t.structures.len() as u32),
@@ -224,14 +301,15 @@ fn new_id(rng: &mut Rng, taken: &mut BTreeSet<(u32, u32)>, scope: u32) -> u32 {
     }
 }
 
-fn tags(rng: &mut Rng, t: &mut Tables) {
+fn tags(rng: &mut Rng, t: &mut Tables, size: &Size) {
     let (mut ids, mut taken, mut bytes) = (BTreeSet::new(), BTreeSet::new(), 0);
-    for _ in 0..*rng.pick(&[0, 1, 2, 3, 4, 5, 5, 6, 6, 7, 7, 8, 9, 9, 10, 12]) {
-        let (ty, lengths, elements) = tag_type(rng, t);
+    for _ in 0..*rng.pick(size.tags) {
+        let (ty, lengths, elements) = tag_type(rng, t, size);
         let more = size_of(t, ty) * elements;
         let scope = if rng.chance(60) { 0 } else { rng.below(t.programs.len() as u32 + 1) };
-        let word = name(rng);
-        if bytes + more > MEMORY || !taken.insert((scope, word.to_ascii_lowercase())) {
+        let word = new_name(rng, size);
+        let full = t.tags.len() == 1024 || bytes + more > size.memory;
+        if full || !taken.insert((scope, word.to_ascii_lowercase())) {
             continue;
         }
         bytes += more;
@@ -244,24 +322,27 @@ fn tags(rng: &mut Rng, t: &mut Tables) {
 }
 
 /// Gives each tag its bytes, in another order than the table's, some adjacent, some behind a gap.
-fn place(rng: &mut Rng, t: &mut Tables) -> u32 {
+fn place(rng: &mut Rng, t: &mut Tables, size: &Size) -> u32 {
     let mut order: Vec<usize> = (0..t.tags.len()).collect();
     rng.shuffle(&mut order);
+    // where the bounds of T1 leave no room for a gap, there is none
+    let bytes_of = |t: &Tables, i: usize| size_of(t, t.tags[i][4]) * t.tags[i][8];
+    let all: u32 = order.iter().map(|&i| bytes_of(t, i)).sum();
+    let gaps = size.memory < LARGE.memory || all + 3 * order.len() as u32 + 4 <= LARGE.memory;
     let mut at = 0;
     for index in order {
-        at += *rng.pick(&[0, 0, 0, 1, 3]);
-        let bytes = size_of(t, t.tags[index][4]) * t.tags[index][8];
+        at += *rng.pick(&[0, 0, 0, 1, 3]) * u32::from(gaps);
         t.tags[index][11] = at;
-        at += bytes;
+        at += bytes_of(t, index);
     }
-    at + *rng.pick(&[0, 0, 1, 4])
+    at + *rng.pick(&[0, 0, 1, 4]) * u32::from(gaps)
 }
 
-fn others(rng: &mut Rng, t: &mut Tables) {
+fn others(rng: &mut Rng, t: &mut Tables, size: &Size) {
     let mut ids: BTreeSet<(u32, u32)> = t.tags.iter().map(|r| (r[0], r[3])).collect();
     let tag_names: BTreeSet<(u32, Vec<u8>)> =
         t.tags.iter().map(|r| (r[0], t.tag_name(r).to_ascii_lowercase())).collect();
-    for _ in 0..rng.below(7) {
+    for _ in 0..rng.below(size.others) {
         let scope = if rng.chance(75) { 0 } else { rng.below(t.programs.len() as u32 + 1) };
         let word = match t.programs.is_empty() || rng.chance(40) {
             true => name(rng),

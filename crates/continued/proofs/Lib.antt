@@ -5,3 +5,4 @@ pub mod Listing
 pub mod Requests
 pub mod Point3
 pub mod Examples
+pub mod Program

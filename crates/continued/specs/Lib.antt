@@ -1,3 +1,4 @@
 pub mod Reads
 pub mod Pages
 pub mod Point3
+pub mod Program

@@ -13,7 +13,7 @@ use lib.Seq.{getD-take, getD-drop}
 use borrow.Author.Tests.{ltb-true, leb-true, lt-ltb, eqb-true, eqb-false}
 use Rattle.laws.proofs.Chain.{by-test, pick-all}
 use Rattle.laws.proofs.Tests.{both-true, either-true, every-at, everyFrom-at, not-empty}
-use Rattle.definition.specs.Tables.{Tables, Row, field, structureSize, templateStart, templateLength, structureAt, membersOf, memberType, memberLength, memberOffset, tagType, tagLengths, nonzero, lengthsOf, tagElements}
+use Rattle.definition.specs.Tables.{Tables, Row, field, structureSize, templateStart, templateLength, structureAt, membersOf, memberType, memberLength, memberOffset, memberBit, noBit, tagType, tagLengths, nonzero, lengthsOf, tagElements}
 use Rattle.definition.specs.Types.{isStructure, isDwordArray, elementSize, sizeIn, DWORD}
 use Rattle.definition.specs.Lookup.{tagAt}
 use Rattle.definition.specs.Valid.{isType, encoded, t1, t2, t3, memberFits, structureFits, t4, product, zerosLast, isBoolArray, tagFits, t5, tagEnd, t6, valid}
@@ -100,6 +100,13 @@ module _ (t : Tables) (memory : ℕ) (ok : valid t memory ≡ true) where
     pub member-inside : memberOffset member + elementSize t (memberType member) * max 1 (memberLength member) ≤ structureSize structure
     unfolding memberFits
     member-inside = leb-true _ _ (both-true _ _ (both-true (isType i (memberType member)) _ member-fits .1) .0)
+
+    pub member-bit : memberBit member ≤ noBit
+    unfolding memberFits
+    member-bit =
+        leb-true _ _
+        (both-true (leb (memberOffset member + elementSize t (memberType member) * max 1 (memberLength member)) (structureSize structure)) _
+        (both-true (isType i (memberType member)) _ member-fits .1) .1)
 
   pub element-some : (type : ℕ) → isType (length (t .structures)) type ≡ true → 0 < elementSize t type
   unfolding isType sizeIn

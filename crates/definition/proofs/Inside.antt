@@ -24,7 +24,7 @@ use Rattle.definition.specs.Valid.{isType, product, tagEnd, valid}
 use Rattle.definition.specs.Resolve.{Target, Resolved, found, turned, wholeTag, Move, indexes, member, stray, moves, allBelow, rowMajor, elementsFrom, index, memberTarget, visibleMember, memberFound, memberOf, moveTo, andThen, walk, fromTag, byInstance, byName, inScope, inProgram, scopedBy, resolve}
 use Rattle.definition.specs.Access.{isDenied, permitted, tagTarget}
 use Rattle.definition.specs.Promises.{Lies, Target-lies-in-its-tag}
-use Rattle.definition.proofs.Facts.{structure-in, member-type, member-inside, element-some, tag-type, tag-in-memory, tag-elements}
+use Rattle.definition.proofs.Facts.{structure-in, member-type, member-inside, member-bit, element-some, tag-type, tag-in-memory, tag-elements}
 
 -- indexes below their lengths reach a position below the lengths' product
 pub position-below : (p : ℕ) (es ns : List ℕ) → length es ≡ length ns → allBelow es ns ≡ true → rowMajor p es ns < (p + 1) * product ns
@@ -56,6 +56,7 @@ pub record Stands (t : Tables) (g : Target) : Type 0 where
   pub reach : product (g .lengths) ≤ g .count
   pub after-start : tagOffset (tagAt t (g .tag)) ≤ g .start
   pub before-end : g .start + g .count * elementSize t (g .type) ≤ tagEnd t (tagAt t (g .tag))
+  pub bit : g .bit ≤ noBit
 
 module _ (t : Tables) (f : Flags) (memory : ℕ) (ok : valid t memory ≡ true) where
   abbrev Stood : Resolved → Type 0
@@ -70,6 +71,7 @@ module _ (t : Tables) (f : Flags) (memory : ℕ) (ok : valid t memory ≡ true) 
     reach = tag-elements t memory ok i h .1;
     after-start = omega arith;
     before-end = omega arith;
+    bit = omega arith;
   }
 
   elements-stand : (g : Target) (p : ℕ) → Stands t g → p < g .count → Stands t (elementsFrom t g p)
@@ -84,6 +86,7 @@ module _ (t : Tables) (f : Flags) (memory : ℕ) (ok : valid t memory ≡ true) 
         reach = omega arith;
         after-start = omega arith;
         before-end = omega (arith, add-mul (g .count - p) p size, ap (λ (k : ℕ). k * size) split);
+        bit = s .bit;
       }
 
   index-stands : (es : List ℕ) (g : Target) → Stands t g → Stood (index t es g)
@@ -98,9 +101,10 @@ module _ (t : Tables) (f : Flags) (memory : ℕ) (ok : valid t memory ≡ true) 
       (λ e. tt))
 
   row-stands : (g : Target) (r : Row) → Stands t g → isType (length (t .structures)) (memberType r) ≡ true
-      → memberOffset r + elementSize t (memberType r) * max 1 (memberLength r) ≤ g .count * elementSize t (g .type) → Stands t (memberTarget g r)
+      → memberOffset r + elementSize t (memberType r) * max 1 (memberLength r) ≤ g .count * elementSize t (g .type) → memberBit r ≤ noBit
+      → Stands t (memberTarget g r)
   unfolding memberTarget isType sizeIn atomicSize
-  row-stands g r s type inside =
+  row-stands g r s type inside b =
       let n = max 1 (memberLength r) in
       let one : 0 < n = omega arith in
       by-test (eqb (memberBit r) noBit)
@@ -111,6 +115,7 @@ module _ (t : Tables) (f : Flags) (memory : ℕ) (ok : valid t memory ≡ true) 
         reach = pick-all (λ ns. product ns ≤ n) (ltb 0 (memberLength r)) (omega arith) (omega arith);
         after-start = omega arith;
         before-end = omega (arith, mul-comm (elementSize t (memberType r)) n);
+        bit = b;
       }))
       (λ e. rw e (record {
         tag = s .tag;
@@ -119,6 +124,7 @@ module _ (t : Tables) (f : Flags) (memory : ℕ) (ok : valid t memory ≡ true) 
         reach = omega arith;
         after-start = omega arith;
         before-end = omega (arith, mul-pos (element-some t memory ok (memberType r) type) one);
+        bit = b;
       }))
 
   member-stands : (g : Target) (j : ℕ) → Stands t g → isStructure (g .type) ≡ true → j < length (membersOf t (structureOf t (g .type)))
@@ -128,6 +134,7 @@ module _ (t : Tables) (f : Flags) (memory : ℕ) (ok : valid t memory ≡ true) 
       let i = structure-in (length (t .structures)) (g .type) e (s .type) in
       row-stands g _ s (member-type t memory ok (g .type - 0x100) j i h)
       (rw e (omega (arith, member-inside t memory ok (g .type - 0x100) j i h, mul-le-mul-right (structureSize (structureOf t (g .type))) (s .some-elements))))
+      (member-bit t memory ok (g .type - 0x100) j i h)
 
   visible-stands : (g : Target) (r : Row) → Stands t (memberTarget g r) → Stood (visibleMember f g r)
   unfolding visibleMember
@@ -196,6 +203,7 @@ module _ (t : Tables) (f : Flags) (memory : ℕ) (ok : valid t memory ≡ true) 
     after-start = s .after-start;
     before-end = s .before-end;
     in-memory = tag-in-memory t memory ok (g .tag) (s .tag);
+    bit = s .bit;
   }
 
   pub target-lies : (writes : Bool) (path : List Segment) → OnFound (Lies t memory) (tagTarget t f writes path)

@@ -11,7 +11,7 @@ use Rattle.laws.specs.Tests.{some-of}
 use Rattle.definition.specs.Reply.{room}
 use Rattle.definition.specs.Segment.{Segment}
 use Rattle.definition.specs.Request.{request, requestOf}
-use Rattle.definition.specs.Tables.{Tables, Flags, Row, tagOffset}
+use Rattle.definition.specs.Tables.{Tables, Flags, Row, noBit, tagOffset}
 use Rattle.definition.specs.Types.{atomicSize, isAtomic, elementSize, typeHeader}
 use Rattle.definition.specs.Lookup.{tagAt}
 use Rattle.definition.specs.Valid.{valid, tagEnd}
@@ -68,6 +68,7 @@ pub record Lies (t : Tables) (memory : ℕ) (g : Target) : Type 0 where
   pub after-start : tagOffset (tagAt t (g .tag)) ≤ g .start
   pub before-end : g .start + g .count * elementSize t (g .type) ≤ tagEnd t (tagAt t (g .tag))
   pub in-memory : tagEnd t (tagAt t (g .tag)) ≤ memory
+  pub bit : g .bit ≤ noBit
 
 abbrev pub Target-lies-in-its-tag : Type 0
 Target-lies-in-its-tag =

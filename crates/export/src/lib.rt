@@ -1,9 +1,52 @@
-// The C entry points. A slice of bytes passes as a pointer and a length, a slice of rows as a pointer and a count of rows.
+// The C entry points; ciplink.h declares them. A slice of bytes passes as a pointer and a length, a slice of rows as a pointer and a count of rows.
+use logix::entry::Outcome;
+use logix::entry::Refusal;
+use model::Flags;
 ghost use mathlib.Core.Path.{_≡_};
+ghost use mathlib.Core.Bool.{true};
+ghost use Prim.Native.Nat.{_+_, _≤_};
 ghost use lib.ListN.{length};
 ghost use Rattle.laws.specs.Pick.{pick};
+ghost use Rattle.definition.specs.Reply.{room};
 ghost use Rattle.definition.specs.Valid.{valid};
-ghost use Rattle.model.specs.Tables.{tablesOf};
+ghost use Rattle.definition.specs.Answer.{answer};
+ghost use Rattle.definition.specs.Entry.{entry};
+ghost use Rattle.model.specs.Tables.{tablesOf, flagsOf};
+ghost use Rattle.services.specs.Answers.{Answers};
+ghost use Rattle.logix.specs.Entering.{numberOf};
+ghost use Rattle.export.specs.Entries.{flagsIn, Told};
+
+/// What a refusal's number is added to: no reply is so long.
+const REFUSED: u64 = 0x1_0000_0000;
+
+/// Flags by their bits.
+fn flags_of(word: u32) -> Flags
+    ensures { λ r. ⌜ flagsOf r ≡ flagsIn word ⌝ }
+{
+    Flags {
+        multi_service: word % 2 == 1,
+        instance_ids: word / 2 % 2 == 1,
+        aoi_locals_refused: word / 4 % 2 == 1,
+        micro800: word / 8 % 2 == 1,
+    }
+}
+
+fn number_of(why: Refusal) -> u64
+    ensures { λ r. ⌜ (r ≡ numberOf why) × (r ≤ 4) ⌝ }
+{
+    match why {
+        Refusal::RequestTooLong => 1,
+        Refusal::LimitTooLarge => 2,
+        Refusal::BufferTooShort => 3,
+        Refusal::TablesInvalid => 4,
+    }
+}
+
+fn long(n: usize) -> u64
+    ensures { λ r. ⌜ r ≡ n ⌝ }
+{
+    n as u64
+}
 
 /// 1 if the tables are valid by T1 to T6 for this tag memory, else 0.
 #[no_mangle]
@@ -34,4 +77,80 @@ pub extern "C" fn ciplink_valid(
         return 1;
     }
     0
+}
+
+/// Answers a request over tables that ciplink_valid took, within the limits of items 1 to 3: the reply's length.
+#[no_mangle]
+pub extern "C" fn ciplink_answer(
+    structures: &[[u32; 10]],
+    members: &[[u32; 9]],
+    programs: &[[u32; 2]],
+    tags: &[[u32; 12]],
+    others: &[[u32; 5]],
+    names: &[u8],
+    tag_names: &[u8],
+    templates: &[u8],
+    flags: u32,
+    memory: &mut [u8],
+    request: &[u8],
+    limit: usize,
+    buf: &mut [u8],
+) -> u64
+    requires { ⌜ (length (now request) ≤ 65535) × (limit ≤ 65535) × (room limit ≤ length (now buf)) × (valid (tablesOf (now structures) (now members) (now programs) (now tags) (now others) (now names) (now «tag_names») (now templates)) (length (now memory)) ≡ true) ⌝ }
+    ensures { λ r. ⌜ Answers limit (answer (tablesOf (now (structures .entry)) (now (members .entry)) (now (programs .entry)) (now (tags .entry)) (now (others .entry)) (now (names .entry)) (now («tag_names» .entry)) (now (templates .entry))) (flagsIn flags) (now (memory .entry)) (now (request .entry)) limit) (now (buf .entry)) r (now (buf .exit)) (now (memory .exit)) ⌝ }
+{
+    long(logix::entry::answer(
+        structures,
+        members,
+        programs,
+        tags,
+        others,
+        names,
+        tag_names,
+        templates,
+        flags_of(flags),
+        memory,
+        request,
+        limit,
+        buf,
+    ))
+}
+
+/// Answers any request over any tables: the reply's length, or 0x1_0000_0000 plus the number of an entry refusal, which changes nothing.
+#[no_mangle]
+pub extern "C" fn ciplink_message(
+    structures: &[[u32; 10]],
+    members: &[[u32; 9]],
+    programs: &[[u32; 2]],
+    tags: &[[u32; 12]],
+    others: &[[u32; 5]],
+    names: &[u8],
+    tag_names: &[u8],
+    templates: &[u8],
+    flags: u32,
+    memory: &mut [u8],
+    request: &[u8],
+    limit: usize,
+    buf: &mut [u8],
+) -> u64
+    ensures { λ r. ⌜ Told (entry (tablesOf (now (structures .entry)) (now (members .entry)) (now (programs .entry)) (now (tags .entry)) (now (others .entry)) (now (names .entry)) (now («tag_names» .entry)) (now (templates .entry))) (flagsIn flags) (now (memory .entry)) (now (request .entry)) limit (now (buf .entry))) r (now (buf .exit)) (now (memory .exit)) ⌝ }
+{
+    match logix::entry::message(
+        structures,
+        members,
+        programs,
+        tags,
+        others,
+        names,
+        tag_names,
+        templates,
+        flags_of(flags),
+        memory,
+        request,
+        limit,
+        buf,
+    ) {
+        Outcome::Reply(n) => long(n),
+        Outcome::Refused(why) => REFUSED + number_of(why),
+    }
 }

@@ -7,7 +7,7 @@ use mathlib.Core.Option.{Option, none, some}
 use Prim.Native.Nat.{ℕ, _+_, _-_, _≤_, _<_, min}
 use native.Mathlib.Omega.{arith}
 use lib.Dec.{ltb, leb, eqb}
-use lib.ListN.{length, getD, take, drop, length-take}
+use lib.ListN.{length, getD, length-take}
 use borrow.Author.Tests.{lt-ltb, le-ltb, le-leb, lt-leb, eq-eqb, leb-true, leb-false, ltb-true, eqb-true}
 use Rattle.laws.specs.Pick.{pick, both}
 use Rattle.laws.specs.Put.{put, zeroed}
@@ -111,10 +111,12 @@ module _ (templates : List ℕ) (service from due limit space : ℕ) (old new : 
       let z : limit - 4 ≡ 0 = omega (arith, eqb-true space 0 (two .1)) in
       rw (lt-leb due (limit - 4) h, eq-eqb (limit - 4) 0 z) l
 
-  pub sent-part : (b : Bool) (n : ℕ) (s : Status) → b ≡ both (ltb space due) (eqb space 0) → b ≡ false → n ≡ min due space → s ≡ pick (leb due space) success partial
-      → Laid limit (reply service s (part templates from n)) old r new → Laid limit (templateSent templates service from due limit) old r new
+  pub sent-part : (b : Bool) (n : ℕ) (s : Status) (bytes : List ℕ) → b ≡ both (ltb space due) (eqb space 0) → b ≡ false → n ≡ min due space
+      → s ≡ pick (leb due space) success partial → bytes ≡ part templates from n → Laid limit (reply service s bytes) old r new
+      → Laid limit (templateSent templates service from due limit) old r new
   unfolding templateSent
-  sent-part b n s p f e q l =
+  sent-part b n s bytes p f e q x m =
+      let l = rw x at m in
       by-test (leb due (limit - 4))
       (λ t. let k : n ≡ due = omega (arith, leb-true due (limit - 4) t) in rw (t, ← k) (rw (q, left, t) at l))
       (λ t. let h = leb-false due (limit - 4) t in
@@ -123,8 +125,8 @@ module _ (templates : List ℕ) (service from due limit space : ℕ) (old new : 
       rw (t, some, ← k) (rw (q, left, t) at l))
 
 -- what is sent fits, and its status has no extended word
-pub part-fits : (xs : List ℕ) (from n due space limit : ℕ) → space ≡ limit - 4 → n ≡ min due space → 4 + length (take (from + n - from) (drop from xs)) ≤ room limit
-part-fits xs from n due space limit e f = simp length-take (omega arith)
+pub part-fits : (xs bytes : List ℕ) (from n due space limit : ℕ) → space ≡ limit - 4 → n ≡ min due space → bytes ≡ part xs from n → 4 + length bytes ≤ room limit
+part-fits xs bytes from n due space limit e f x = rw (x, length-take) (omega arith)
 
 pub no-word : (t : Bool) {s : Status} → s ≡ pick t success partial → hasWord s ≡ false
 no-word true e = rw e

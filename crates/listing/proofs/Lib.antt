@@ -5,3 +5,5 @@ pub mod Objects
 pub mod Attributed
 pub mod Made
 pub mod Paged
+pub mod Filled
+pub mod Starts

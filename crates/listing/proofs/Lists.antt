@@ -90,7 +90,7 @@ module _ (body : List ℕ) where
   unfolding countIn
   missing-short h = pick-yes _ _ _ _ (lt-ltb (length body) (2 + 2 * u16At body 0) (omega arith)) refl
 
-  counted-none : Missing ≡ countIn body → counted body ≡ none
+  pub counted-none : Missing ≡ countIn body → counted body ≡ none
   unfolding countIn counted
   counted-none e = by-test (ltb (length body) (2 + 2 * u16At body 0)) (λ t. rw t) (λ t. clash (cc (rw t at e)))
 

@@ -2,12 +2,13 @@
 use mathlib.Core.Path.{_≡_}
 use mathlib.Core.Bool.{true}
 use mathlib.Core.List.{List, [], _∷_}
-use Prim.Native.Nat.{ℕ, suc, _+_, _*_, _%_, _≤_, _<_}
+use Prim.Native.Nat.{ℕ, suc, _+_, _-_, _*_, _%_, _≤_, _<_}
 use lib.Dec.{eqb}
 use lib.ListN.{length}
 use Rattle.laws.specs.Pick.{pick}
 use Rattle.laws.specs.Put.{put}
-use Rattle.definition.specs.Bytes.{le16, le32}
+use Rattle.definition.specs.Bytes.{le16, le32, part}
+use Rattle.definition.specs.Reply.{reply, fail, partial, tooLarge}
 use Rattle.definition.specs.Tables.{Tables, Row, tagName, tagElements, tagAccess, otherName}
 use Rattle.definition.specs.Valid.{valid}
 use Rattle.definition.specs.Page.{Entry}
@@ -83,3 +84,7 @@ abbrev pub Further : (used limit : ℕ) → Step → Type 0
 Further used limit (More u b) = (used + 4 ≤ u) × (u ≤ limit)
 Further used limit Full = Unit {0}
 Further used limit Done = Unit {0}
+
+-- what is sent of a page whose next entry does not fit: 0x06 and the entries, which stand in the buffer up to `used`, or 0x11 if there is none
+abbrev pub stopped : (service used : ℕ) (buffer : List ℕ) → List ℕ
+stopped service used buffer = pick (eqb used 4) (fail service tooLarge) (reply service partial (part buffer 4 (used - 4)))

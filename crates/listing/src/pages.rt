@@ -1,16 +1,23 @@
 // Symbol pages: the attributes that a page knows, and one entry after another by ascending ID, as far as they fit.
 use crate::entries;
 use crate::entries::Symbol;
+use crate::replies;
 use crate::symbols;
+use cip::Status;
 use model::least::Next;
 ghost use mathlib.Core.Path.{_≡_};
+ghost use mathlib.Core.Bool.{false};
 ghost use mathlib.Core.List.{_++_};
-ghost use Prim.Native.Nat.{suc, _+_, _*_, _≤_};
+ghost use Prim.Native.Nat.{suc, _+_, _-_, _*_, _≤_, max};
 ghost use lib.ListN.{length, drop};
-ghost use Rattle.definition.specs.Bytes.{le32, numbers};
-ghost use Rattle.definition.specs.Symbols.{attributesOf, isListed};
+ghost use Rattle.definition.specs.Bytes.{le32, numbers, part};
+ghost use Rattle.definition.specs.Reply.{reply, room};
+ghost use Rattle.definition.specs.Page.{pageReply};
+ghost use Rattle.definition.specs.Symbols.{attributesOf, isListed, due};
+ghost use Rattle.cip.specs.Statuses.{statusOf, hasWord};
+ghost use Rattle.cip.specs.Writes.{Laid};
 ghost use Rattle.laws.specs.Tests.{every};
-ghost use Rattle.listing.specs.Entries.{made, Entered, Stepped, EachValid, SomeValid, Further};
+ghost use Rattle.listing.specs.Entries.{made, Entered, Stepped, EachValid, SomeValid, Further, stopped};
 
 /// A step of a page: where the entries end and the least ID of the next one; an entry that does not fit; nothing due.
 pub enum Step {
@@ -139,5 +146,86 @@ pub fn page_step(
             )
         }
         Next::Nothing => Step::Done,
+    }
+}
+
+/// Where the entries of a page end at most; not before its header does.
+fn end_of(limit: usize) -> usize
+    ensures { λ r. ⌜ r ≡ max 4 limit ⌝ }
+{
+    if limit < replies::HEADER {
+        replies::HEADER
+    } else {
+        limit
+    }
+}
+
+/// A reply whose data stand in the buffer already, behind the place of its header.
+fn close(service: u8, status: Status, used: usize, limit: usize, buf: &mut [u8]) -> usize
+    requires { ⌜ (4 ≤ used) × (used ≤ room limit) × (room limit ≤ length (now buf)) × (hasWord (statusOf status) ≡ false) ⌝ }
+    ensures { λ r. ⌜ Laid limit (reply service (statusOf status) (part (now (buf .entry)) 4 (used - 4))) (now (buf .entry)) r (now (buf .exit)) ⌝ }
+{
+    cip::put_header(buf, service, status);
+    cip::finish(buf, limit, used)
+}
+
+/// A page whose next entry does not fit: 0x06, or 0x11 if that is the first.
+fn stop(service: u8, used: usize, limit: usize, buf: &mut [u8]) -> usize
+    requires { ⌜ (4 ≤ used) × (used ≤ room limit) × (room limit ≤ length (now buf)) ⌝ }
+    ensures { λ r. ⌜ Laid limit (stopped service used (now (buf .entry))) (now (buf .entry)) r (now (buf .exit)) ⌝ }
+{
+    if used == replies::HEADER {
+        return cip::fail(buf, limit, service, Status::TooLarge);
+    }
+    close(service, Status::Partial, used, limit, buf)
+}
+
+/// A page of the entries due from a start ID on: as many as fit; 0x06 before one that does not fit, 0x11 if the first does not.
+pub fn put_page(
+    structures: &[[u32; 10]],
+    tags: &[[u32; 12]],
+    others: &[[u32; 5]],
+    names: &[u8],
+    tag_names: &[u8],
+    scope: u32,
+    start: u32,
+    body: &[u8],
+    n: usize,
+    service: u8,
+    limit: usize,
+    buf: &mut [u8],
+) -> usize
+    requires { ⌜ SomeValid (now structures) (now tags) (now others) (now names) (now «tag_names») × (2 + 2 * n ≤ length (now body)) × (n ≤ 65535) × (room limit ≤ length (now buf)) ⌝ }
+    ensures { λ r. ⌜ EachValid (now (structures .entry)) (now (tags .entry)) (now (others .entry)) (now (names .entry)) (now («tag_names» .entry)) (λ t. Laid limit (pageReply service (due t scope (numbers n (drop 2 (now (body .entry)))) start) limit) (now (buf .entry)) r (now (buf .exit))) ⌝ }
+{
+    let end = end_of(limit);
+    let mut used = replies::HEADER;
+    let mut bound = start as u64;
+    loop {
+        match page_step(
+            structures,
+            tags,
+            others,
+            names,
+            tag_names,
+            scope,
+            bound,
+            body,
+            n,
+            end,
+            used,
+            buf,
+        ) {
+            Step::More(u, b) => {
+                used = u;
+                bound = b;
+            }
+            Step::Full => {
+                return stop(service, used, limit, buf);
+            }
+            Step::Done => {
+                return close(service, Status::Success, used, limit, buf);
+            }
+        }
     }
 }

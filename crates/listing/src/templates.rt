@@ -2,6 +2,7 @@
 use crate::replies;
 use cip::Status;
 use model::lookup::Found;
+use tags::reads;
 ghost use mathlib.Core.Path.{_≡_};
 ghost use mathlib.Core.List.{[]};
 ghost use Prim.Native.Nat.{_+_, _≤_, _<_};
@@ -37,8 +38,9 @@ fn nothing_fits(due: usize, space: usize) -> bool
 }
 
 /// Sends `due` bytes of the store, or as many as fit; 0x11 if none fits.
-fn send_part(
-    templates: &[u8],
+fn send_part<'a>(
+    templates: &'a [u8],
+    memory: &'a [u8],
     from: usize,
     due: usize,
     service: u8,
@@ -53,13 +55,14 @@ fn send_part(
         return cip::fail(buf, limit, service, Status::TooLarge);
     }
     let n = replies::smaller(due, space);
-    let bytes = &templates[from..from + n];
+    let bytes = reads::chunk(templates, memory, true, from, n);
     replies::send(bytes, service, part_status(due, space), limit, buf)
 }
 
 /// The answer to a read of a template that starts here in the store and is so long.
-fn template_reply(
-    templates: &[u8],
+fn template_reply<'a>(
+    templates: &'a [u8],
+    memory: &'a [u8],
     start: u32,
     size: u32,
     service: u8,
@@ -82,6 +85,7 @@ fn template_reply(
     let from = model::lookup::wide(start) + model::lookup::wide(offset);
     send_part(
         templates,
+        memory,
         from,
         replies::smaller(wanted, left),
         service,
@@ -91,9 +95,10 @@ fn template_reply(
 }
 
 /// The template of an ID; 0x05 for an unknown one.
-pub fn read_template(
+pub fn read_template<'a>(
     structures: &[[u32; 10]],
-    templates: &[u8],
+    templates: &'a [u8],
+    memory: &'a [u8],
     service: u8,
     id: u32,
     body: &[u8],
@@ -106,6 +111,7 @@ pub fn read_template(
     match model::lookup::find_template(structures, id) {
         Found::At(i) => template_reply(
             templates,
+            memory,
             structures[i][8],
             structures[i][9],
             service,

@@ -49,3 +49,4 @@ pub record Aimed (structures : List Row) (memory : ℕ) (g : Target) : Type 0 wh
   pub some-elements : 0 < g .count
   pub in-memory : g .start + g .count * g .size ≤ memory
   pub small-memory : memory ≤ 65536
+  pub bit : g .bit ≤ 8

@@ -2,4 +2,5 @@ pub mod Cases
 pub mod Forward
 pub mod Segments
 pub mod TagPaths
+pub mod Objects
 pub mod Laws

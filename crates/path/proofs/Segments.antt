@@ -6,10 +6,12 @@ use mathlib.Core.List.{List, [], _∷_}
 use mathlib.Core.Option.{Option, none, some}
 use Prim.Native.Nat.{ℕ, _<_, _≤_}
 use native.Mathlib.Omega.{arith}
+use lib.Dec.{ltb}
 use lib.ListN.{length}
+use borrow.Author.Tests.{ltb-true, ltb-false}
 use Rattle.laws.specs.Pick.{isSome}
 use Rattle.laws.specs.Items.{before, items, each, over}
-use Rattle.laws.proofs.Chain.{clash}
+use Rattle.laws.proofs.Chain.{by-test, clash}
 use Rattle.laws.proofs.Items.{items-at, items-bad, items-end, over-before}
 use Rattle.definition.specs.Segment.{Segment as Defined, Step, step, cut, segmentAt, nextOf, segmentOf, onlySegments, segmentsFrom}
 use Rattle.path.specs.Decode.{nextAfter}
@@ -66,6 +68,10 @@ module _ (path : List ℕ) (at : ℕ) where
   pub segments-head : (l : List Defined) → segmentsFrom path at ≡ some l → at < length path → Head path at l
   segments-head l g h = head-at l g h (segmentAt path at) refl
 
+  -- where the path goes on there are some
+  pub no-head : segmentsFrom path at ≡ some [] → at < length path → ⊥
+  no-head e h = clash (cc (segments-head [] e h .all))
+
   -- the rest of a path that decodes decodes
   some-before : (s : Defined) (m : Option (List Defined)) → isSome (before s m) ≡ true → isSome m ≡ true
   some-before s none e = e
@@ -73,6 +79,21 @@ module _ (path : List ℕ) (at : ℕ) where
 
   pub segments-rest : (s : Defined) (next : ℕ) → segmentAt path at ≡ step s next → isSome (segmentsFrom path at) ≡ true → isSome (segmentsFrom path next) ≡ true
   segments-rest s next e h = some-before s (segmentsFrom path next) (rw (segments-step path at s next e) at h)
+
+-- what holds of the segments from a position on, by the first of them
+module _ (path : List ℕ) (at : ℕ) (P : List Defined → Type 0) where
+  first-by : (s : Defined) (m : Option (List Defined)) → ((l : List Defined) → m ≡ some l → P (s ∷ l)) → (l : List Defined) → before s m ≡ some l → P l
+  first-by s none f l e = clash (cc e)
+  first-by s (some k) f l e = let h : s ∷ k ≡ l = cc e in rw h at (f k refl)
+
+  pub first-at : (s : Defined) (next : ℕ) → segmentAt path at ≡ step s next → ((l : List Defined) → segmentsFrom path next ≡ some l → P (s ∷ l))
+      → (l : List Defined) → segmentsFrom path at ≡ some l → P l
+  first-at s next e f l g = first-by s (segmentsFrom path next) f l (sym (segments-step path at s next e) ∙ g)
+
+  pub none-at : segmentAt path at ≡ cut → P [] → (l : List Defined) → segmentsFrom path at ≡ some l → P l
+  none-at e p l g =
+      by-test (ltb at (length path)) (λ t. clash (cc (sym (segments-cut path at (ltb-true at (length path) t) e) ∙ g)))
+      (λ t. let h : [] ≡ l = cc (sym (segments-end path at (ltb-false at (length path) t)) ∙ g) in rw h at p)
 
 -- ---- a loop: the invariant is `over g done bad s (segmentsFrom path at) ≡ v`; r is what the decoder found
 

@@ -21,7 +21,7 @@ use Rattle.path.specs.Paths.{stepOf, tagPathBy, tagPathFrom, leftOf, seg
 use Rattle.path.specs.declared.Segment.{Segment}
 use Rattle.path.specs.declared.Segment.the-variants.{Port, Class, Instance, Element, Attribute, Symbol, Invalid}
 use Rattle.path.proofs.Forward.{decoded-step}
-use Rattle.path.proofs.Segments.{segments-end, segments-cut, segments-step, segments-head, segments-rest}
+use Rattle.path.proofs.Segments.{segments-end, segments-cut, segments-step, segments-rest, no-head}
 
 -- ---- by a path's first segment, with m what follows: one that is neither a class nor a symbol
 
@@ -89,15 +89,12 @@ module _ (path : List ℕ) (at : ℕ) where
       by-test (ltb at (length path)) (λ t. clash (cc (rw (segments-cut path at (ltb-true at (length path) t) e) at h)))
       (λ t. rw (segments-end path at (ltb-false at (length path) t)))
 
-  no-head : segmentsFrom path at ≡ some [] → at < length path → ⊥
-  no-head e h = clash (cc (segments-head path at [] e h .all))
-
   no-tag : (s : Defined) (next : ℕ) → segmentAt path at ≡ step s next → ((m : Option (List Defined)) → false ≡ tagPathBy (before s m)) → false ≡ tagPathFrom path at
   no-tag s next e f = f (segmentsFrom path next) ∙ sym (tag-at s next e)
 
 -- r is what the decoder found
 module _ (path : List ℕ) (at : ℕ) (r : Segment) (found : r ≡ decodedAt path at) where
-  at-step : (s : Segment) → r ≡ s → segmentAt path at ≡ stepOf path s
+  pub at-step : (s : Segment) → r ≡ s → segmentAt path at ≡ stepOf path s
   at-step s g = sym (decoded-step path at s (sym g ∙ found))
 
   pub tag-port : (next : ℕ) → r ≡ Port next → false ≡ tagPathFrom path at

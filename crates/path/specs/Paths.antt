@@ -1,7 +1,7 @@
 -- What the code's answers mean in the definition's terms.
 use mathlib.Core.Path.{_≡_}
 use mathlib.Core.Bool.{Bool, false}
-use mathlib.Core.List.{List}
+use mathlib.Core.List.{List, _∷_}
 use mathlib.Core.Option.{Option, none, some}
 use Prim.Native.Nat.{ℕ, _+_, _*_, _≤_}
 use lib.Dec.{ltb, eqb}
@@ -9,9 +9,11 @@ use lib.ListN.{length, getD}
 use Rattle.laws.specs.Pick.{pick}
 use Rattle.definition.specs.Bytes.{part}
 use Rattle.definition.specs.Segment.{Segment as Defined, port, class, instance, element, attribute, symbol, Step, step, cut, segmentAt, segmentsFrom, segments}
-use Rattle.definition.specs.Request.{isTagPath}
+use Rattle.definition.specs.Request.{noObject, objectOf, isTagPath}
 use Rattle.path.specs.declared.Segment.{Segment}
 use Rattle.path.specs.declared.Segment.the-variants.{Port, Class, Instance, Element, Attribute, Symbol, Invalid}
+use Rattle.path.specs.declared.Object.{Object}
+use Rattle.path.specs.declared.Object.the-variants.{Of, Nothing}
 use Rattle.path.specs.declared.Check.{Check}
 use Rattle.path.specs.declared.Check.the-variants.{Segments, Bad}
 use Rattle.path.specs.declared.Split.{Split}
@@ -83,3 +85,23 @@ symbolObject c (Element x next) = false
 symbolObject c (Attribute x next) = false
 symbolObject c (Symbol start n next) = false
 symbolObject c Invalid = false
+
+-- ---- class and instance
+
+abbrev pub objectBehind : ℕ → Segment → Object
+objectBehind c (Port next) = Nothing
+objectBehind c (Class x next) = Nothing
+objectBehind c (Instance x next) = Of c x next
+objectBehind c (Element x next) = Nothing
+objectBehind c (Attribute x next) = Nothing
+objectBehind c (Symbol start n next) = Nothing
+objectBehind c Invalid = Nothing
+
+pub record ObjectFound (path : List ℕ) (at c i next : ℕ) : Type 0 where
+  pub rest : List Defined
+  pub is : segmentsFrom path at ≡ some (class c ∷ (instance i ∷ rest))
+  pub rest-is : segmentsFrom path next ≡ some rest
+
+abbrev pub ObjectAt : (path : List ℕ) (at : ℕ) → Object → Type 0
+ObjectAt path at (Of c i next) = ObjectFound path at c i next
+ObjectAt path at Nothing = (l : List Defined) → segmentsFrom path at ≡ some l → objectOf l ≡ noObject

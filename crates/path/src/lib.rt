@@ -20,7 +20,7 @@ ghost use Rattle.path.specs.Decode.{
   decodedAt,
   nextAfter,
 };
-ghost use Rattle.path.specs.Paths.{Decoded, checkOf, splitOf, tagPathFrom, symbolObject};
+ghost use Rattle.path.specs.Paths.{Decoded, checkOf, splitOf, tagPathFrom, symbolObject, objectBehind, ObjectAt};
 
 // What the first byte of a segment says: four times the kind, plus the form.
 // Kinds: 0 none, 1 port, 2 class, 3 instance, 4 element, 5 attribute, 6 symbol.
@@ -620,5 +620,42 @@ pub fn is_tag_path(path: &[u8], at: usize) -> bool
         Segment::Element(_, _) => false,
         Segment::Attribute(_, _) => false,
         Segment::Invalid => false,
+    }
+}
+
+/// A path's class and instance, and where what follows them starts.
+pub enum Object {
+    Of(u32, u32, usize),
+    Nothing,
+}
+
+/// A class with an instance behind it.
+fn object_of(class: u32, second: Segment) -> Object
+    ensures { λ r. ⌜ r ≡ objectBehind class second ⌝ }
+{
+    match second {
+        Segment::Instance(instance, next) => Object::Of(class, instance, next),
+        Segment::Port(_) => Object::Nothing,
+        Segment::Class(_, _) => Object::Nothing,
+        Segment::Element(_, _) => Object::Nothing,
+        Segment::Attribute(_, _) => Object::Nothing,
+        Segment::Symbol(_, _, _) => Object::Nothing,
+        Segment::Invalid => Object::Nothing,
+    }
+}
+
+/// The object that the segments from a position on start with, all of which decode.
+pub fn object_at(path: &[u8], at: usize) -> Object
+    requires { ⌜ isSome (segmentsFrom (now path) at) ≡ true ⌝ }
+    ensures { λ r. ⌜ ObjectAt (now (path .entry)) at r ⌝ }
+{
+    match decode(path, at) {
+        Segment::Class(class, next) => object_of(class, decode(path, next)),
+        Segment::Port(_) => Object::Nothing,
+        Segment::Instance(_, _) => Object::Nothing,
+        Segment::Element(_, _) => Object::Nothing,
+        Segment::Attribute(_, _) => Object::Nothing,
+        Segment::Symbol(_, _, _) => Object::Nothing,
+        Segment::Invalid => Object::Nothing,
     }
 }

@@ -254,4 +254,5 @@ found-aimed structures members programs tags others names tagNames templates pat
       some-elements = l .some-elements;
       in-memory = rw s (omega (arith, l .before-end, l .in-memory));
       small-memory = memory-small t memory ok;
+      bit = l .bit;
     }

@@ -164,7 +164,7 @@ fn send_selected<'a>(
     q: Sending,
     buf: &mut [u8],
 ) -> usize
-    requires { ⌜ Aimed (now structures) (length (now memory)) g × (g .bit ≤ 8) × (elements ≤ g .count) × (room (q .limit) ≤ length (now buf)) ⌝ }
+    requires { ⌜ Aimed (now structures) (length (now memory)) g × (elements ≤ g .count) × (room (q .limit) ≤ length (now buf)) ⌝ }
     ensures { λ r. ⌜ Laid (q .limit) (send (q .service) (granted (selection (now (structures .entry)) (targetOf g []) elements)) (now (memory .entry)) (q .offset) (q .limit)) (now (buf .entry)) r (now (buf .exit)) ⌝ }
 {
     let start = g.start;
@@ -205,7 +205,7 @@ pub fn read<'a>(
     limit: usize,
     buf: &mut [u8],
 ) -> usize
-    requires { ⌜ Aimed (now structures) (length (now memory)) g × (g .bit ≤ 8) × (room limit ≤ length (now buf)) ⌝ }
+    requires { ⌜ Aimed (now structures) (length (now memory)) g × (room limit ≤ length (now buf)) ⌝ }
     ensures { λ r. ⌜ Laid limit (readReply (now (structures .entry)) (now (memory .entry)) service (targetOf g []) (now (body .entry)) limit) (now (buf .entry)) r (now (buf .exit)) ⌝ }
 {
     if body.len() < fields_size(service) {

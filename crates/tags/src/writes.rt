@@ -162,7 +162,7 @@ pub fn write(
     g: Target,
     body: &[u8],
 ) -> Status
-    requires { ⌜ Aimed (now structures) (length (now memory)) g × (g .bit ≤ 8) ⌝ }
+    requires { ⌜ Aimed (now structures) (length (now memory)) g ⌝ }
     ensures { λ r. ⌜ Stores (writeStored (now (structures .entry)) (now (memory .entry)) service (targetOf g []) (now (body .entry))) (now (memory .entry)) r (now (memory .exit)) ⌝ }
 {
     if body.len() < 2 {

@@ -14,7 +14,7 @@ enum-told : tie.Need-enum-told
 enum-told c = search needs
 
 send-selected-requires : tie.Need-send-selected-requires
-send-selected-requires c κs = (c .before .before .before .before .before .before .before .before .before .before .before .before .before .pre .0, c .before .before .before .before .before .before .before .before .before .before .before .before .before .pre .1, granted-few (c .before .before .before .before .before .before .before .before .before .before .before .before .before .args .g .bit) (c .before .before .before .before .before .before .before .before .before .before .before .before .before .args .g .count) _ _ (c .before .before .before .before .before .before .before .before .before .before .before .before .before .pre .0 .some-elements) (c .before .before .before .ask-of .ensures) (c .before .enum-told .given .1), omega arith)
+send-selected-requires c κs = (c .before .before .before .before .before .before .before .before .before .before .before .before .before .pre .0, granted-few (c .before .before .before .before .before .before .before .before .before .before .before .before .before .args .g .bit) (c .before .before .before .before .before .before .before .before .before .before .before .before .before .args .g .count) _ _ (c .before .before .before .before .before .before .before .before .before .before .before .before .before .pre .0 .some-elements) (c .before .before .before .ask-of .ensures) (c .before .enum-told .given .1), omega arith)
 
 returns-2 : tie.Need-returns-2
 returns-2 c = read-granted _ _ _ _ _ _ _ _ _ _ (c .before .before .before .before .before .before .before .before .before .before .before .fields-size .ensures) _ _ _ _ (c .before .before .before .before .before .before .before .before .before .before .if1 .left) (c .before .before .before .before .before .before .before .before .before .u16-at .ensures) (c .before .before .before .before .before .before .before .before .wide16 .ensures) (c .before .before .before .before .before .before .before .offset-of .ensures) (c .before .before .before .before .before .before .ask-of .ensures) (c .before .before .before .before .enum-told .given .1) (c .before .before .send-selected .ensures)

@@ -12,10 +12,10 @@ returns : tie.Need-returns
 returns c = bit-sent _ _ _ _ _ _ _ _ _ _ _ (c .before .before .before .before .before .before .before .if1 .taken) (c .before .before .before .before .before .bit-of .ensures) (c .before .before .send-from .ensures)
 
 mul-size : tie.Need-mul-size
-mul-size c = omega (arith, aimed-inside _ _ _ (c .before .before .before .before .before .before .pre .0) _ (c .before .before .before .before .before .before .pre .2), c .before .before .before .before .before .before .pre .0 .small-memory)
+mul-size c = omega (arith, aimed-inside _ _ _ (c .before .before .before .before .before .before .pre .0) _ (c .before .before .before .before .before .before .pre .1), c .before .before .before .before .before .before .pre .0 .small-memory)
 
 send-from-requires-2 : tie.Need-send-from-requires-2
-send-from-requires-2 c κs = (aimed-inside _ _ _ (c .before .before .before .before .before .before .before .pre .0) _ (c .before .before .before .before .before .before .before .pre .2), omega arith)
+send-from-requires-2 c κs = (aimed-inside _ _ _ (c .before .before .before .before .before .before .before .pre .0) _ (c .before .before .before .before .before .before .before .pre .1), omega arith)
 
 returns-2 : tie.Need-returns-2
 returns-2 c = part-sent _ _ _ _ _ _ _ _ _ _ _ (c .before .before .before .before .before .if1 .left) (c .before .before .before .before .before .before .before .before .before .before .pre .0 .size-is) (c .before .before .send-from2 .ensures)

@@ -12,7 +12,7 @@ returns-2 : tie.Need-returns-2
 returns-2 c = fields-short _ _ _ _ _ _ (c .before .fields-size .ensures) (c .if2 .taken)
 
 write-bit-requires : tie.Need-write-bit-requires
-write-bit-requires c κs = (aimed-first _ _ _ (c .before .before .before .before .before .before .before .before .before .before .pre .0), omega arith)
+write-bit-requires c κs = (aimed-first _ _ _ (c .before .before .before .before .before .before .before .before .before .before .pre), omega (arith, c .before .before .before .before .before .before .before .before .before .before .pre .bit))
 
 returns-3 : tie.Need-returns-3
 returns-3 c = writes-bit _ _ _ _ _ _ (c .before .before .before .before .before .before .before .before .before .fields-size .ensures) _ (c .before .before .before .before .before .before .before .before .if2 .left) (c .before .before .before .before .before .before .before .fields-of .ensures) _ _ (c .before .before .before .before .before .if3 .taken) (c .before .before .write-bit .ensures)

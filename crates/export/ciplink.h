@@ -1,0 +1,119 @@
+/* ciplink: the tag services of a simulated Logix controller, proved equal to their definition.
+ *
+ * Link target/staticlib/libexport.a, which `rt staticlib export` writes (x86-64 Linux). The functions keep nothing between
+ * two calls, allocate nothing and may run in several threads at once, each on tag memory and a reply buffer of its own.
+ *
+ * A table passes as a pointer to its rows and their number, a store of bytes as a pointer and its length. No pointer may be
+ * NULL, not even one to nothing. Tag memory and the reply buffer overlap nothing else that is passed, nor each other, and
+ * nothing changes any of it while a function runs. */
+#ifndef CIPLINK_H
+#define CIPLINK_H
+
+#include <stddef.h>
+#include <stdint.h>
+
+#ifdef __cplusplus
+extern "C" {
+#endif
+
+/* The table set. A name is a part of a store of names: its start and its length in bytes, 1 to 40, each 0x20 to 0x7E. A type
+ * is an atomic code (0xC1 BOOL, 0xC2 SINT, 0xC3 INT, 0xC4 DINT, 0xC5 LINT, 0xC6 USINT, 0xC7 UINT, 0xC8 UDINT, 0xC9 ULINT,
+ * 0xCA REAL, 0xCB LREAL, 0xD1 BYTE, 0xD2 WORD, 0xD3 DWORD, 0xD4 LWORD), or CIPLINK_STRUCTURE plus a structure's row number
+ * from 0. A scope is 0 for the controller, k + 1 for the program in row k. A mark is 0 or 1. Access is 0 to 3: 2 is read
+ * only, 3 none. Sizes, offsets and starts are in bytes. */
+#define CIPLINK_STRUCTURE 0x100u
+#define CIPLINK_NO_BIT 8u
+
+typedef struct {         /* at most 64 */
+  uint32_t name_start;   /* in names */
+  uint32_t name_length;
+  uint32_t template_id;  /* 16 bits */
+  uint32_t handle;       /* 16 bits */
+  uint32_t size;         /* 1 to 65,535 */
+  uint32_t first_member; /* the row of the first of its members, which follow one another */
+  uint32_t member_count;
+  uint32_t aoi;            /* mark: an Add-On Instruction */
+  uint32_t template_start; /* in templates */
+  uint32_t template_length;
+} ciplink_structure;
+
+typedef struct {       /* at most 512 */
+  uint32_t name_start; /* in names */
+  uint32_t name_length;
+  uint32_t type;         /* atomic, or a structure of an earlier row than its own */
+  uint32_t array_length; /* 0: not an array */
+  uint32_t offset;       /* in the structure */
+  uint32_t bit;          /* 0 to 7 of the byte at the offset, or CIPLINK_NO_BIT */
+  uint32_t hidden;       /* mark: not found by name */
+  uint32_t local;        /* mark: a local of an Add-On Instruction */
+  uint32_t access;
+} ciplink_member;
+
+typedef struct {       /* at most 16 */
+  uint32_t name_start; /* in names; without `Program:` */
+  uint32_t name_length;
+} ciplink_program;
+
+typedef struct { /* at most 1,024 */
+  uint32_t scope;
+  uint32_t name_start; /* in tag_names */
+  uint32_t name_length;
+  uint32_t id; /* the instance ID, not 0 */
+  uint32_t type;
+  uint32_t lengths[3]; /* of an array, the nonzero ones first; 0, 0, 0: not an array */
+  uint32_t elements;   /* their product, 1 if there is none; a DWORD array of 32 k bits may have k */
+  uint32_t access;
+  uint32_t alias;  /* mark */
+  uint32_t offset; /* in tag memory; no two tags share a byte */
+} ciplink_tag;
+
+typedef struct { /* a symbol that is no tag: a program, routine or task; at most 64 */
+  uint32_t scope;
+  uint32_t name_start; /* in names */
+  uint32_t name_length;
+  uint32_t id;
+  uint32_t symbol_type; /* 16 bits */
+} ciplink_other;
+
+/* The eight tables, as parameters: rows; the names of structures, members, programs and other symbols; the tags' names;
+ * the templates (at most 65,536 bytes). */
+#define CIPLINK_TABLES                                                                                    \
+  const ciplink_structure *structures, size_t structure_count, const ciplink_member *members,             \
+      size_t member_count, const ciplink_program *programs, size_t program_count, const ciplink_tag *tags, \
+      size_t tag_count, const ciplink_other *others, size_t other_count, const uint8_t *names,            \
+      size_t names_length, const uint8_t *tag_names, size_t tag_names_length, const uint8_t *templates,   \
+      size_t templates_length
+
+/* Flags; CIPLINK_MICRO800 turns the first two off. Other bits are to be 0. */
+#define CIPLINK_MULTI_SERVICE 1u      /* envelopes of several messages are answered */
+#define CIPLINK_INSTANCE_IDS 2u       /* tags are found by their instance ID too */
+#define CIPLINK_AOI_LOCALS_REFUSED 4u /* locals are not found, and an AOI that has some is neither read nor written whole */
+#define CIPLINK_MICRO800 8u
+
+/* An outcome below CIPLINK_REFUSED is the reply's length; else it is one of the refusals, which write nothing. */
+#define CIPLINK_REFUSED UINT64_C(0x100000000)
+#define CIPLINK_REQUEST_TOO_LONG (CIPLINK_REFUSED + 1) /* the request exceeds 65,535 bytes */
+#define CIPLINK_LIMIT_TOO_LARGE (CIPLINK_REFUSED + 2)  /* the limit exceeds 65,535 */
+#define CIPLINK_BUFFER_TOO_SHORT (CIPLINK_REFUSED + 3) /* the reply buffer is shorter than max(8, limit) */
+#define CIPLINK_TABLES_INVALID (CIPLINK_REFUSED + 4)   /* ciplink_valid says 0 */
+
+/* 1 if the tables are valid for tag memory of this length, else 0. Its time grows with the square of the tags. */
+uint32_t ciplink_valid(CIPLINK_TABLES, const uint8_t *memory, size_t memory_length);
+
+/* Answers a CIP message with a reply that the limit cuts; writes go to tag memory (at most 65,536 bytes). Judges all of its
+ * arguments anew: it answers or refuses whatever is passed. Afterwards the reply buffer has the reply, zeros from its end up
+ * to position max(8, limit), and behind that the bytes that it had. A reply exceeds the limit only where that is below 8:
+ * the status and a type header are always sent. */
+uint64_t ciplink_message(CIPLINK_TABLES, uint32_t flags, uint8_t *memory, size_t memory_length, const uint8_t *request,
+                         size_t request_length, size_t limit, uint8_t *reply, size_t reply_length);
+
+/* The same without judging: for a program that asks ciplink_valid once and keeps its tables. The reply's length. What
+ * ciplink_message would refuse must not be passed: nothing is proved of what happens then. */
+uint64_t ciplink_answer(CIPLINK_TABLES, uint32_t flags, uint8_t *memory, size_t memory_length, const uint8_t *request,
+                        size_t request_length, size_t limit, uint8_t *reply, size_t reply_length);
+
+#ifdef __cplusplus
+}
+#endif
+
+#endif

@@ -1,0 +1,41 @@
+-- An outcome of the code told as a number.
+-- Assumes nothing.
+use mathlib.Core.Path.{_≡_, refl, sym, ap, _∙_}
+use mathlib.Core.List.{List}
+use Prim.Native.Nat.{ℕ, _+_}
+use lib.ListN.{length}
+use Rattle.definition.specs.Tables.{Tables, Flags}
+use Rattle.definition.specs.Answer.{answer}
+use Rattle.definition.specs.Entry.{Outcome as Defined, refused, replied, entry}
+use Rattle.services.specs.Answers.{Answers}
+use Rattle.logix.specs.Entering.{numberOf, Says, Enters}
+use Rattle.logix.specs.declared.entry.Refusal.{Refusal}
+use Rattle.logix.specs.declared.entry.Outcome.{Outcome}
+use Rattle.logix.specs.declared.entry.Outcome.the-variants.{Reply, Refused}
+use Rattle.export.specs.Entries.{codeOf, Told}
+
+says-reply : (n : ℕ) (d : Defined) → Says (Reply n) d → n ≡ codeOf d
+says-reply n (replied bytes) h = h
+says-reply n (refused number) h = absurd h
+
+says-refused : (why : Refusal) (d : Defined) → Says (Refused why) d → 0x100000000 + numberOf why ≡ codeOf d
+says-refused why (replied bytes) h = absurd h
+says-refused why (refused number) h = ap (λ (k : ℕ). 0x100000000 + k) h
+
+-- the flags are those of the word
+module _ (t : Tables) (g f : Flags) (q : g ≡ f) (memory request : List ℕ) (limit : ℕ) (buffer : List ℕ) where
+  pub answer-told : (n r : ℕ) (new after : List ℕ) → Answers limit (answer t g memory request limit) buffer n new after → r ≡ n → Answers limit (answer t f memory request limit) buffer r new after
+  answer-told n r new after h e = rw (← q, e) h
+
+  module _ (o : Outcome) (new after : List ℕ) (h : Enters (entry t g memory request limit buffer) o new after) where
+    abbrev Tells : ℕ → Type 0
+    Tells r = Told (entry t f memory request limit buffer) r new after
+
+    told : (r : ℕ) → r ≡ codeOf (entry t g memory request limit buffer .outcome) → Tells r
+    told r e = rw (← q) (record { code-is = e; buffer-is = h .buffer-is; memory-is = h .memory-is })
+
+    pub told-reply : (n r : ℕ) → o ≡ Reply n → r ≡ n → Tells r
+    told-reply n r k e = told r (e ∙ says-reply n (entry t g memory request limit buffer .outcome) (rw k at (h .outcome-is)))
+
+    pub told-refused : (why : Refusal) (m r : ℕ) → o ≡ Refused why → m ≡ numberOf why → r ≡ 0x100000000 + m → Tells r
+    told-refused why m r k e s = told r (s ∙ ap (λ (x : ℕ). 0x100000000 + x) e ∙ says-refused why (entry t g memory request limit buffer .outcome) (rw k at (h .outcome-is)))

@@ -1,0 +1,12 @@
+use Rattle.export.proofs.Telling.{answer-told}
+use borrow.Author.Needs.{needs}
+use Rattle.export.proofs.ciplink_answer.Statement.{statement}
+use Rattle.export.proofs.ciplink_answer.Tie as tie
+
+returns : tie.Need-returns
+returns c = answer-told _ _ _ (c .before .before .before .before .before .before .before .before .flags-of .ensures) _ _ _ _ _ _ _ _ (c .before .before .before .before .before .answer .ensures) (c .long .ensures)
+
+pub ciplink-answer-spec : {M : Type 1} → statement M
+ciplink-answer-spec =
+    tie.close
+    (tie.spec (λ c κs. search needs) (λ c κs. search needs) (λ c κs. search needs) (λ c. search needs) (λ c. search needs) returns)

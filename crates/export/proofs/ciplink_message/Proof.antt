@@ -1,0 +1,33 @@
+use native.Mathlib.Omega.{arith}
+use Rattle.export.proofs.Telling.{told-reply, told-refused}
+use mathlib.Core.Path.{refl}
+use borrow.Author.Needs.{needs}
+use Rattle.export.proofs.ciplink_message.Statement.{statement}
+use Rattle.export.proofs.ciplink_message.Tie as tie
+
+add-result : tie.Need-add-result
+add-result c = omega (arith, c .number-of .ensures .1)
+
+returns : tie.Need-returns
+returns c = told-reply _ _ _ (c .before .before .before .before .before .before .before .before .before .before .before .flags-of .ensures) _ _ _ _ _ _ _ (c .before .before .before .before .before .before .before .before .message .ensures) _ _ (c .before .before .n .given .1) (c .long .ensures)
+
+returns-2 : tie.Need-returns-2
+returns-2 c = told-refused _ _ _ (c .before .before .before .before .before .before .before .before .before .before .before .flags-of .ensures) _ _ _ _ _ _ _ (c .before .before .before .before .before .before .before .before .message .ensures) _ _ _ (c .before .before .why .given .1) (c .number-of .ensures .0) refl
+
+pub ciplink-message-spec : {M : Type 1} → statement M
+ciplink-message-spec =
+    tie.close
+    (tie.spec
+    (λ c κs. search needs)
+    (λ c κs. search needs)
+    (λ c. search needs)
+    (λ c κs. search needs)
+    (λ c. search needs)
+    (λ c κs. search needs)
+    add-result
+    (λ c. search needs)
+    (λ c. search needs)
+    returns
+    (λ c. search needs)
+    (λ c. search needs)
+    returns-2)

@@ -1,0 +1,14 @@
+use borrow.Author.Tests.{eq-eqb, ne-eqb}
+use borrow.Author.Needs.{needs}
+use Rattle.listing.proofs.pages.stop.Statement.{statement}
+use Rattle.listing.proofs.pages.stop.Tie as tie
+
+returns : tie.Need-returns
+returns c = rw (eq-eqb _ 4 (c .before .before .before .before .if1 .taken)) (c .before .before .fail .ensures)
+
+returns-2 : tie.Need-returns-2
+returns-2 c = rw (ne-eqb _ 4 (c .before .before .before .before .if1 .left)) (c .before .before .close .ensures)
+
+pub stop-spec : {M : Type 1} → statement M
+stop-spec =
+    tie.close (tie.spec (λ c κs. search needs) (λ c. search needs) returns (λ c κs. search needs) (λ c. search needs) returns-2)

@@ -1,0 +1,25 @@
+use borrow.Author.Needs.{needs}
+use Rattle.path.proofs.object_of.Statement.{statement}
+use Rattle.path.proofs.object_of.Tie as tie
+
+returns : tie.Need-returns
+returns c = cc
+
+pub object-of-spec : {M : Type 1} → statement M
+object-of-spec =
+    tie.close
+    (tie.spec
+    (λ c. search needs)
+    (λ c. search needs)
+    (λ c. search needs)
+    (λ c. search needs)
+    (λ c. search needs)
+    (λ c. search needs)
+    (λ c. search needs)
+    returns
+    (λ c. search needs)
+    (λ c. search needs)
+    (λ c. search needs)
+    (λ c. search needs)
+    (λ c. search needs)
+    (λ c. search needs))

@@ -1,0 +1,119 @@
+// Items 14 to 18: the services of a tag, from its path to tag memory.
+use model::Flags;
+use model::Target;
+use resolve::Resolved;
+ghost use mathlib.Core.Path.{_≡_};
+ghost use mathlib.Core.Bool.{true};
+ghost use mathlib.Core.List.{[]};
+ghost use Prim.Native.Nat.{_≤_};
+ghost use lib.ListN.{length};
+ghost use Rattle.laws.specs.Pick.{isSome};
+ghost use Rattle.definition.specs.Reply.{room};
+ghost use Rattle.definition.specs.Segment.{segments};
+ghost use Rattle.definition.specs.Valid.{valid};
+ghost use Rattle.definition.specs.Answer.{isRead, isWrite, isTagService, tagService};
+ghost use Rattle.model.specs.Tables.{tablesOf, flagsOf, targetOf, Aimed};
+ghost use Rattle.services.specs.Answers.{Answers, OnPath};
+ghost use Rattle.services.specs.Services.{onFound};
+
+pub const READ: u8 = 0x4C;
+
+const READ_FRAGMENTED: u8 = 0x52;
+
+const WRITE: u8 = 0x4D;
+
+const WRITE_FRAGMENTED: u8 = 0x53;
+
+const WRITE_MASKED: u8 = 0x4E;
+
+fn is_read(service: u8) -> bool
+    ensures { λ r. ⌜ r ≡ isRead service ⌝ }
+{
+    if service == READ {
+        return true;
+    }
+    service == READ_FRAGMENTED
+}
+
+fn is_write(service: u8) -> bool
+    ensures { λ r. ⌜ r ≡ isWrite service ⌝ }
+{
+    if service == WRITE {
+        return true;
+    }
+    if service == WRITE_FRAGMENTED {
+        return true;
+    }
+    service == WRITE_MASKED
+}
+
+pub fn is_tag_service(service: u8) -> bool
+    ensures { λ r. ⌜ r ≡ isTagService service ⌝ }
+{
+    if is_read(service) {
+        return true;
+    }
+    is_write(service)
+}
+
+/// Reads or writes a resolved target; a write's status is its whole reply.
+fn serve(
+    structures: &[[u32; 10]],
+    templates: &[u8],
+    memory: &mut [u8],
+    service: u8,
+    g: Target,
+    body: &[u8],
+    limit: usize,
+    buf: &mut [u8],
+) -> usize
+    requires { ⌜ Aimed (now structures) (length (now memory)) g × (room limit ≤ length (now buf)) ⌝ }
+    ensures { λ r. ⌜ Answers limit (onFound (now (structures .entry)) (now (memory .entry)) service (targetOf g []) (now (body .entry)) limit) (now (buf .entry)) r (now (buf .exit)) (now (memory .exit)) ⌝ }
+{
+    if is_read(service) {
+        return tags::reads::read(structures, templates, memory, service, g, body, limit, buf);
+    }
+    if service == WRITE_MASKED {
+        let status = tags::masks::masked_write(memory, g, body);
+        return cip::fail(buf, limit, service, status);
+    }
+    let status = tags::writes::write(structures, memory, service, g, body);
+    cip::fail(buf, limit, service, status)
+}
+
+/// A tag service on a tag path.
+pub fn tag_service(
+    structures: &[[u32; 10]],
+    members: &[[u32; 9]],
+    programs: &[[u32; 2]],
+    tags: &[[u32; 12]],
+    others: &[[u32; 5]],
+    names: &[u8],
+    tag_names: &[u8],
+    templates: &[u8],
+    flags: Flags,
+    memory: &mut [u8],
+    service: u8,
+    path: &[u8],
+    body: &[u8],
+    limit: usize,
+    buf: &mut [u8],
+) -> usize
+    requires { ⌜ (isSome (segments (now path)) ≡ true) × (valid (tablesOf (now structures) (now members) (now programs) (now tags) (now others) (now names) (now «tag_names») (now templates)) (length (now memory)) ≡ true) × (room limit ≤ length (now buf)) ⌝ }
+    ensures { λ r. ⌜ OnPath (now (path .entry)) limit (λ l. tagService (tablesOf (now (structures .entry)) (now (members .entry)) (now (programs .entry)) (now (tags .entry)) (now (others .entry)) (now (names .entry)) (now («tag_names» .entry)) (now (templates .entry))) (flagsOf flags) (now (memory .entry)) service l (now (body .entry)) limit) (now (buf .entry)) r (now (buf .exit)) (now (memory .exit)) ⌝ }
+{
+    match resolve::tag_target(
+        structures,
+        members,
+        programs,
+        tags,
+        names,
+        tag_names,
+        flags,
+        is_write(service),
+        path,
+    ) {
+        Resolved::Found(g) => serve(structures, templates, memory, service, g, body, limit, buf),
+        Resolved::Turned(status) => cip::fail(buf, limit, service, status),
+    }
+}

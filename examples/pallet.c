@@ -1,0 +1,57 @@
+/* Reads the array `Rows` of the pallet bench by a continued read, and prints it. From the root of the repository:
+ *   rt staticlib export && cc -I crates/export examples/pallet.c target/staticlib/libexport.a -o target/pallet && target/pallet */
+#include <stdio.h>
+#include <string.h>
+
+#include "ciplink.h"
+
+static const uint8_t names[] = "CellTypeRun";
+static const uint8_t tag_names[] = "CountRowsCell";
+static const uint8_t templates[] = {1, 2, 3, 4, 5, 6, 7, 8};
+
+static const ciplink_structure structures[] = {{0, 8, 0x100, 0x1234, 4, 0, 1, 0, 0, 8}};
+static const ciplink_member members[] = {{8, 3, 0xC1, 0, 0, 2, 0, 0, 0}}; /* Run: bit 2 of byte 0 */
+static const ciplink_tag tags[] = {
+    {0, 0, 5, 1, 0xC4, {0, 0, 0}, 1, 0, 0, 0},                              /* Count, a DINT */
+    {0, 5, 4, 2, 0xC4, {10, 0, 0}, 10, 0, 0, 4},                            /* Rows, 10 DINTs */
+    {0, 9, 4, 0xFFFFFFFFu, CIPLINK_STRUCTURE + 0, {0, 0, 0}, 1, 0, 0, 44}}; /* Cell */
+static const ciplink_program no_programs[1];
+static const ciplink_other no_others[1];
+
+static uint8_t memory[48] = {0x2A, 0, 0, 0}; /* Count is 42 */
+
+static uint32_t number(const uint8_t *bytes) {
+  return bytes[0] | (uint32_t)bytes[1] << 8 | (uint32_t)bytes[2] << 16 | (uint32_t)bytes[3] << 24;
+}
+
+int main(void) {
+  uint8_t joined[40], reply[22];
+  size_t got = 0;
+
+  for (int i = 0; i < 10; i++) memory[4 + 4 * i] = (uint8_t)(i * i); /* Rows: 0, 1, 4, 9 .. */
+  memory[44] = 4;                                                    /* Cell.Run is on */
+
+  do {
+    /* 0x52, the path `Rows`, 10 elements, and as the offset what is there already */
+    uint8_t request[] = {0x52, 3, 0x91, 4, 'R', 'o', 'w', 's', 10, 0, (uint8_t)got, 0, 0, 0};
+    uint64_t length = ciplink_message(structures, 1, members, 1, no_programs, 0, tags, 3, no_others, 0, names,
+                                      sizeof names - 1, tag_names, sizeof tag_names - 1, templates, sizeof templates,
+                                      CIPLINK_MULTI_SERVICE | CIPLINK_INSTANCE_IDS, memory, sizeof memory, request,
+                                      sizeof request, sizeof reply, reply, sizeof reply);
+    if (length >= CIPLINK_REFUSED) {
+      printf("refused by entry item %u\n", (unsigned)(length - CIPLINK_REFUSED));
+      return 1;
+    }
+    if ((reply[2] != 0 && reply[2] != 6) || length <= 6 || got + (length - 6) > sizeof joined) {
+      printf("status 0x%02X after %zu bytes\n", reply[2], got);
+      return 1;
+    }
+    /* service, 0, status, 0 and the type, then the data */
+    printf("%zu bytes, status 0x%02X\n", (size_t)length - 6, reply[2]);
+    memcpy(joined + got, reply + 6, (size_t)length - 6);
+    got += (size_t)length - 6;
+  } while (reply[2] == 6);
+
+  for (size_t at = 0; at + 4 <= got; at += 4) printf("Rows[%zu] = %u\n", at / 4, (unsigned)number(joined + at));
+  return 0;
+}

@@ -1,0 +1,260 @@
+//! Holds the entry points of `crates/export`, linked from its archive, to the reference: outcomes, replies, the buffer
+//! behind them, tag memory after each message, and the entry refusals.
+//!
+//!   messages SEED SETS MESSAGES     MESSAGES messages to each of SETS table sets; exit status 1 if an answer differs
+
+// what only the other drivers use of the generators
+#![allow(dead_code)]
+
+mod broken;
+mod cases;
+mod ciplink;
+mod findings;
+mod lent;
+mod messages;
+mod paths;
+mod rng;
+mod tables;
+mod tally;
+mod valid;
+
+use cases::{Case, Expected, Run, Wanted, run_broken, sound, talk};
+use ciplink::{Asked, REFUSED};
+use ciplink_sim::rows::Flags;
+use findings::hex;
+use lent::{Lent, pattern};
+use rng::Rng;
+use std::collections::BTreeMap;
+use tables::{LARGE, MEDIUM, SMALL, Set, Size};
+use tally::Tally;
+
+/// More differences than these are counted and not printed.
+const PRINTED: u64 = 20;
+
+/// Where a case comes from, for a printed difference.
+#[derive(Clone, Copy)]
+struct Origin<'a> {
+    seed: u64,
+    set: &'a Set,
+    broken: Option<&'a str>,
+}
+
+#[derive(Default)]
+struct Comparison {
+    tally: Tally,
+    /// Messages that went through `ciplink_message` and through `ciplink_answer`.
+    judged: u64,
+    answered: u64,
+    /// Verdicts of `ciplink_valid` by what was broken, "" where nothing was.
+    verdicts: BTreeMap<&'static str, u64>,
+    /// Messages by the flags' bits.
+    flags: [u64; 16],
+    finished: [u64; 3],
+    most_tags: usize,
+    longest: usize,
+    differ: u64,
+    memory: Lent,
+    buffer: Lent,
+    expected: Vec<u8>,
+}
+
+/// The size of a seed's tables; of how many messages one goes through `ciplink_message`, which judges the tables anew,
+/// in a time that grows with the square of the tags; and how many copies are broken for each 200 messages.
+fn sizes(seed: u64) -> (&'static Size, u32, usize) {
+    match seed % 50 {
+        0 => (&LARGE, 300, 1),
+        n if n % 10 == 5 => (&MEDIUM, 20, 2),
+        _ => (&SMALL, 10, 2),
+    }
+}
+
+/// Half of the messages with the set's own flags, half shared among all sixteen combinations.
+fn legs(own: Flags, messages: usize) -> impl Iterator<Item = (Flags, usize)> {
+    let half = messages / 2;
+    let share = move |bits: usize| half * (bits + 1) / 16 - half * bits / 16;
+    let all = (0..16).map(move |bits| (Flags::from_bits(bits as u32), share(bits)));
+    std::iter::once((own, messages - half)).chain(all)
+}
+
+impl Comparison {
+    /// One seed: a valid table set with its messages, and copies of it that are broken.
+    fn seed(&mut self, seed: u64, messages: usize) {
+        let (size, share, copies) = sizes(seed);
+        let mut rng = Rng::new(seed);
+        let mut set = sound(seed, tables::sized(&mut rng, size));
+        self.most_tags = self.most_tags.max(set.tables.tags.len());
+        if self.verdict(Origin { seed, set: &set, broken: None }, "", 1) {
+            let (mut entry, mut which) = (Rng::new(!seed), Rng::new(seed ^ 0xA115));
+            for (flags, count) in legs(set.flags, messages) {
+                set.flags = flags;
+                let wanted = Wanted { messages: count, most: 65_535, refused: 3, long: true };
+                let origin = Origin { seed, set: &set, broken: None };
+                let each = |case: Case| self.hold(origin, &case, which.below(share) == 0);
+                let finished = talk(&set, &mut rng, &mut entry, wanted, each);
+                for (sum, n) in self.finished.iter_mut().zip(finished) {
+                    *sum += n;
+                }
+            }
+        }
+        for copy in 0..(copies * messages / 200).max(1) as u64 {
+            let Run { set, cases, broken } = run_broken(seed ^ copy << 40, &set, true);
+            self.verdict(Origin { seed, set: &set, broken }, broken.unwrap_or(""), 0);
+            for case in cases {
+                self.hold(Origin { seed, set: &set, broken }, &case, true);
+            }
+        }
+    }
+
+    /// Whether `ciplink_valid` judges a set as it is due.
+    fn verdict(&mut self, origin: Origin, what: &'static str, due: u32) -> bool {
+        *self.verdicts.entry(what).or_default() += 1;
+        let told = ciplink::valid(&origin.set.tables, &origin.set.memory);
+        if told != due && self.differs(origin, "ciplink_valid") {
+            println!("  expected  {due}\n  the port: {told}");
+            show_tables(origin);
+        }
+        told == due
+    }
+
+    /// One message: the outcome, the buffer and tag memory afterwards.
+    fn hold(&mut self, origin: Origin, case: &Case, judged: bool) {
+        let set = origin.set;
+        let asked = Asked { tables: &set.tables, flags: set.flags, request: &case.message, limit: case.limit };
+        self.memory.take(&case.before);
+        self.buffer.fill(case.room, case.fill);
+        self.expected.clear();
+        let due = match &case.expected {
+            Expected::Refused(number) => {
+                self.tally.note_refused(*number);
+                REFUSED + u64::from(*number)
+            }
+            Expected::Replied(reply) => {
+                self.tally.note(&case.message, reply, set.flags.micro800);
+                self.longest = self.longest.max(reply.len());
+                self.expected.extend(reply);
+                self.expected.resize(case.limit.max(8), 0);
+                reply.len() as u64
+            }
+        };
+        let kept = self.expected.len()..case.room;
+        self.expected.extend(kept.map(|at| pattern(case.fill, at)));
+        let judged = judged || due >= REFUSED;
+        let told = match judged {
+            true => ciplink::message(asked, self.memory.get(), self.buffer.get()),
+            // sound: the case is due a reply, and `ciplink_valid` took the tables
+            false => unsafe { ciplink::answer(asked, self.memory.get(), self.buffer.get()) },
+        };
+        *(if judged { &mut self.judged } else { &mut self.answered }) += 1;
+        self.flags[set.flags.bits() as usize] += 1;
+        let same = told == due
+            && self.buffer.get() == &self.expected[..]
+            && self.memory.get() == &case.after[..]
+            && self.buffer.guarded()
+            && self.memory.guarded();
+        if !same && self.differs(origin, if judged { "ciplink_message" } else { "ciplink_answer" }) {
+            self.show(case, due, told);
+            show_tables(origin);
+        }
+    }
+
+    /// Counts a difference; whether it is to be printed.
+    fn differs(&mut self, origin: Origin, through: &str) -> bool {
+        self.differ += 1;
+        if self.differ <= PRINTED {
+            println!("differs: {through}, seed {}, {:?}", origin.seed, origin.set.flags);
+        }
+        self.differ <= PRINTED
+    }
+
+    fn show(&mut self, case: &Case, due: u64, told: u64) {
+        println!("  request   {}", short(&case.message));
+        println!("  limit     {}, buffer of {} bytes", case.limit, case.room);
+        println!("  expected  {}", outcome(due, &self.expected));
+        println!("  the port: {}", outcome(told, self.buffer.get()));
+        show_difference("buffer", &self.expected, self.buffer.get());
+        show_difference("tag memory", &case.after, self.memory.get());
+        if !(self.buffer.guarded() && self.memory.guarded()) {
+            println!("  bytes beside the buffer or tag memory were written");
+        }
+        println!("  tag memory before   {}", short(&case.before));
+        if case.before != case.after {
+            println!("  tag memory, as due  {}", short(&case.after));
+        }
+    }
+
+    fn print(&self) {
+        let (answered, refused) = self.tally.messages();
+        println!(
+            "{} messages: {answered} answered, {refused} refused at the entry; through ciplink_message {}, through ciplink_answer {}",
+            answered + refused,
+            self.judged,
+            self.answered
+        );
+        self.tally.print();
+        self.tally.print_refused();
+        let fewest = self.flags.iter().min().expect("sixteen");
+        println!("each of the 16 combinations of flags: at least {fewest} messages");
+        let [reads, templates, pages] = self.finished;
+        println!("continued to the end: {reads} reads, {templates} template reads, {pages} symbol pages");
+        println!("longest reply {} bytes, largest tag table {} tags", self.longest, self.most_tags);
+        let sound = self.verdicts.get("").copied().unwrap_or(0);
+        let broken: u64 = self.verdicts.values().sum::<u64>() - sound;
+        let kinds = self.verdicts.len() - usize::from(sound > 0);
+        println!("ciplink_valid: {sound} valid table sets, {broken} broken in {kinds} ways");
+        match self.differ {
+            0 => println!("no answer differs"),
+            n => println!("{n} answers differ"),
+        }
+    }
+}
+
+/// Bytes in hex, the middle of very many left out.
+fn short(bytes: &[u8]) -> String {
+    match bytes.len() {
+        0..=2000 => hex(bytes),
+        n => format!("{} .. ({n} bytes) .. {}", hex(&bytes[..1000]), hex(&bytes[n - 200..])),
+    }
+}
+
+fn outcome(number: u64, buffer: &[u8]) -> String {
+    match number.checked_sub(REFUSED) {
+        Some(refusal) => format!("refused by entry item {refusal}"),
+        None => {
+            let reply = &buffer[..buffer.len().min(number as usize)];
+            format!("a reply of {number} bytes: {}", short(reply))
+        }
+    }
+}
+
+fn show_difference(what: &str, due: &[u8], found: &[u8]) {
+    let differs = due.iter().zip(found).position(|(a, b)| a != b);
+    if let Some(at) = differs {
+        let some = |bytes: &[u8]| hex(&bytes[at..bytes.len().min(at + 20)]);
+        println!("  {what} from byte {at}: expected {} found {}", some(due), some(found));
+    }
+}
+
+fn show_tables(origin: Origin) {
+    if let Some(what) = origin.broken {
+        println!("  tables broken: {what}");
+    }
+    match origin.set.tables.tags.len() {
+        0..=40 => println!("  tables {:X?}", origin.set.tables),
+        n => println!("  tables those of the seed, with {n} tags"),
+    }
+}
+
+fn main() {
+    let args: Vec<u64> = std::env::args().skip(1).map_while(|a| a.parse().ok()).collect();
+    let [seed, sets, messages] = args[..] else {
+        eprintln!("messages SEED SETS MESSAGES");
+        std::process::exit(2)
+    };
+    let mut comparison = Comparison::default();
+    for seed in seed..seed + sets {
+        comparison.seed(seed, messages as usize);
+    }
+    println!("seed {seed}: {sets} table sets, {messages} messages each and some to broken copies");
+    comparison.print();
+    std::process::exit(i32::from(comparison.differ > 0))
+}
