@@ -112,6 +112,20 @@ uint64_t ciplink_message(CIPLINK_TABLES, uint32_t flags, uint8_t *memory, size_t
 uint64_t ciplink_answer(CIPLINK_TABLES, uint32_t flags, uint8_t *memory, size_t memory_length, const uint8_t *request,
                         size_t request_length, size_t limit, uint8_t *reply, size_t reply_length);
 
+/* What a whole read comes to: below CIPLINK_REFUSED the number of bytes joined, else why nothing was. */
+#define CIPLINK_TURNED UINT64_C(0x200000000)     /* plus the general status that the read is turned away with */
+#define CIPLINK_TOO_SHORT UINT64_C(0x300000000)  /* plus the number of bytes that `out` has to hold */
+#define CIPLINK_TOO_NARROW UINT64_C(0x400000000) /* the limit is below 5 plus the type header (2 bytes, 4 for a structure) */
+#define CIPLINK_UNSENDABLE UINT64_C(0x500000000) /* the path has an odd number of bytes, or more than 510 */
+
+/* A continued read done whole: sends reads of `elements` elements (0x52) of a path, each at the number of bytes received, and
+ * joins their data in `out` until status 0: the joined bytes are the selected ones. Tag memory stays as it is. Judges all of its
+ * arguments anew; `reply` is the buffer for the replies, and holds nothing of use afterwards. Where nothing was joined, `out`
+ * is as it was. `out` overlaps nothing else that is passed. */
+uint64_t ciplink_read_whole(CIPLINK_TABLES, uint32_t flags, uint8_t *memory, size_t memory_length, const uint8_t *path,
+                            size_t path_length, uint16_t elements, size_t limit, uint8_t *reply, size_t reply_length,
+                            uint8_t *out, size_t out_length);
+
 #ifdef __cplusplus
 }
 #endif

@@ -502,7 +502,7 @@ pub fn page(prefix: &[u8], start: u32, attributes: &[u16]) -> Vec<u8> {
 }
 
 /// The ID of the last entry of a page.
-fn last_id(entries: &[u8], attributes: &[u16]) -> u32 {
+pub fn last_id(entries: &[u8], attributes: &[u16]) -> u32 {
     let (mut at, mut id) = (0, 0);
     while at + 4 <= entries.len() {
         id = u32::from_le_bytes([entries[at], entries[at + 1], entries[at + 2], entries[at + 3]]);

@@ -51,14 +51,14 @@ entered t f s m = go (enters t f m (s .request) (s .limit) (s .buffer))
 -- ---- reads
 
 -- T1: what is selected is at most 65,536 bytes
-selected-few : (t : Tables) (s : Selection) (m : Memory) → valid t (length m) ≡ true → length (selectedBytes s m) ≤ 65536
+pub selected-few : (t : Tables) (s : Selection) (m : Memory) → valid t (length m) ≡ true → length (selectedBytes s m) ≤ 65536
 unfolding selectedBytes valid t1
 selected-few t s m v =
     let few : length m ≤ 65536 = leb-true _ _ (among (leb (length m) 65536) _ v (λ e. simp (e, both-none))) in
     pick-all (λ (l : List ℕ). length l ≤ 65536) (eqb (s .bit) noBit) (simp (length-take, length-drop) (omega arith)) (omega arith)
 
 -- a granted read, at an offset below the number of selected bytes
-granted-reply : (t : Tables) (m : Memory) (x : Resolved) (elements offset limit : ℕ) (s : Selection)
+pub granted-reply : (t : Tables) (m : Memory) (x : Resolved) (elements offset limit : ℕ) (s : Selection)
     → askTarget (t .structures) x elements ≡ granted s → elements < 65536 → offset < 4294967296 → offset < length (selectedBytes s m)
     → onTarget t m 0x52 x (le16 elements ++ le32 offset) limit ≡ answered (fragmentReply 0x52 (s .header) (drop offset (selectedBytes s m)) limit) m
 unfolding readReply sendFrom

@@ -1,18 +1,18 @@
 -- Point 3 of the program: every run of `message` hears what the definition's entry says, so both theorems of Point3 hold of what it hears.
 -- Assumes nothing.
-use mathlib.Core.Path.{_≡_, refl, sym, ap, subst, _∙_}
+use mathlib.Core.Path.{_≡_, refl, ap, _∙_}
 use mathlib.Core.List.{List, [], _∷_}
-use Prim.Native.Nat.{ℕ, _+_}
-use lib.ListN.{length, take, drop, getD}
+use Prim.Native.Nat.{ℕ}
+use lib.ListN.{length, take}
 use Rattle.laws.specs.Put.{laid}
 use Rattle.laws.proofs.Put.{take-laid}
 use Rattle.definition.specs.Reply.{room}
 use Rattle.definition.specs.Tables.{Tables, Flags}
 use Rattle.definition.specs.Read.{Selection, selectedBytes}
 use Rattle.definition.specs.Symbols.{due}
-use Rattle.definition.specs.Entry.{Outcome as Defined, Entered, refused, replied}
+use Rattle.definition.specs.Entry.{Outcome as Defined, refused, replied}
 use Rattle.definition.proofs.Enters.{Enters as Ways, stopped, taken, enters}
-use Rattle.logix.specs.Entering.{Says, Enters}
+use Rattle.logix.specs.Entering.{Says}
 use Rattle.logix.specs.declared.entry.Outcome.{Outcome}
 use Rattle.logix.specs.declared.entry.Outcome.the-variants.{Reply, Refused}
 use Rattle.continued.specs.Reads.{Memory, Sent, Turn, ours, other, Answer, heard, talk, Fair, Delivered}

@@ -20,7 +20,7 @@ use Rattle.definition.specs.Page.{Entry, idOf}
 use Rattle.definition.specs.Symbols.{Symbol, tagSymbol, otherSymbol, inScopeOnly, symbols, entryOf, listing}
 
 -- T3, of two rows of one scope
-ids-differ : (a b : Row) → idsDiffer a b ≡ true → tagScope a ≡ tagScope b → tagId a ≢ tagId b
+pub ids-differ : (a b : Row) → idsDiffer a b ≡ true → tagScope a ≡ tagScope b → tagId a ≢ tagId b
 unfolding idsDiffer
 ids-differ a b e s i = let n = rw (eq-eqb _ _ s, eq-eqb _ _ i) at e in let z : _≡_ {A = ℕ} 0 1 = cc n in omega arith
 

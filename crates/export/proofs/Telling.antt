@@ -1,9 +1,8 @@
 -- An outcome of the code told as a number.
 -- Assumes nothing.
-use mathlib.Core.Path.{_≡_, refl, sym, ap, _∙_}
+use mathlib.Core.Path.{_≡_, refl, ap, _∙_}
 use mathlib.Core.List.{List}
-use Prim.Native.Nat.{ℕ, _+_}
-use lib.ListN.{length}
+use Prim.Native.Nat.{ℕ, _+_, _%_}
 use Rattle.definition.specs.Tables.{Tables, Flags}
 use Rattle.definition.specs.Answer.{answer}
 use Rattle.definition.specs.Entry.{Outcome as Defined, refused, replied, entry}
@@ -12,7 +11,10 @@ use Rattle.logix.specs.Entering.{numberOf, Says, Enters}
 use Rattle.logix.specs.declared.entry.Refusal.{Refusal}
 use Rattle.logix.specs.declared.entry.Outcome.{Outcome}
 use Rattle.logix.specs.declared.entry.Outcome.the-variants.{Reply, Refused}
-use Rattle.export.specs.Entries.{codeOf, Told}
+use Rattle.pallet.specs.declared.Whole.{Whole}
+use Rattle.pallet.specs.declared.Whole.the-variants as whole
+use Rattle.pallet.specs.Whole.{received, wholeRead}
+use Rattle.export.specs.Entries.{codeOf, Told, wholeCode, ToldWhole}
 
 says-reply : (n : ℕ) (d : Defined) → Says (Reply n) d → n ≡ codeOf d
 says-reply n (replied bytes) h = h
@@ -39,3 +41,17 @@ module _ (t : Tables) (g f : Flags) (q : g ≡ f) (memory request : List ℕ) (l
 
     pub told-refused : (why : Refusal) (m r : ℕ) → o ≡ Refused why → m ≡ numberOf why → r ≡ 0x100000000 + m → Tells r
     told-refused why m r k e s = told r (s ∙ ap (λ (x : ℕ). 0x100000000 + x) e ∙ says-refused why (entry t g memory request limit buffer .outcome) (rw k at (h .outcome-is)))
+
+module _ (w : Whole) where
+  pub whole-refused : (n : ℕ) → w ≡ whole.Refused n → 0x100000000 + n ≡ wholeCode w
+  whole-refused n e = rw e
+
+  pub whole-turned : (n : ℕ) → w ≡ whole.Turned n → 0x200000000 + n ≡ wholeCode w
+  whole-turned n e = rw e
+
+  pub whole-short : (n m : ℕ) → w ≡ whole.TooShort n → m ≡ n → 0x300000000 + m % 0x100000000 ≡ wholeCode w
+  whole-short n m e k = rw (e, k)
+
+pub whole-told : (t : Tables) (g f : Flags) (q : g ≡ f) (memory path : List ℕ) (elements limit buffer : ℕ) (out new : List ℕ) (w : Whole) (r : ℕ)
+    → received w new ≡ wholeRead t g memory path elements limit buffer out → r ≡ wholeCode w → ToldWhole (wholeRead t f memory path elements limit buffer out) r new
+whole-told t g f q memory path elements limit buffer out new w r e k = rw (← q, ← e) (record { code-is = k; out-is = refl })

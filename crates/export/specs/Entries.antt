@@ -6,6 +6,9 @@ use lib.Dec.{eqb}
 use lib.ListN.{length}
 use Rattle.definition.specs.Tables.{Flags}
 use Rattle.definition.specs.Entry.{Outcome, refused, replied, Entered}
+use Rattle.pallet.specs.Whole.{Received}
+use Rattle.pallet.specs.declared.Whole.{Whole}
+use Rattle.pallet.specs.declared.Whole.the-variants.{Joined, TooShort, TooNarrow, Turned, Refused, Unsendable}
 
 -- bit 0 multi-service, 1 instance IDs, 2 AOI locals refused, 3 micro800
 abbrev pub flagsIn : ℕ → Flags
@@ -25,3 +28,17 @@ pub record Told (e : Entered) (r : ℕ) (buffer memory : List ℕ) : Type 0 wher
   pub code-is : r ≡ codeOf (e .outcome)
   pub buffer-is : buffer ≡ e .buffer
   pub memory-is : memory ≡ e .memory
+
+-- the number of bytes joined, or why nothing was: 0x1_0000_0000 plus the refusal's number, 0x2_0000_0000 plus the general status, 0x3_0000_0000 plus
+-- the bytes that `out` has to hold (65,536 at most), 0x4_0000_0000 for a limit that leaves no room, 0x5_0000_0000 for a path that no request carries
+abbrev pub wholeCode : Whole → ℕ
+wholeCode (Joined n) = n
+wholeCode (Refused number) = 0x100000000 + number
+wholeCode (Turned status) = 0x200000000 + status
+wholeCode (TooShort n) = 0x300000000 + n % 0x100000000
+wholeCode TooNarrow = 0x400000000
+wholeCode Unsendable = 0x500000000
+
+pub record ToldWhole (w : Received) (r : ℕ) (out : List ℕ) : Type 0 where
+  pub code-is : r ≡ wholeCode (w .result)
+  pub out-is : out ≡ w .out

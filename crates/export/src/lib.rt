@@ -2,6 +2,7 @@
 use logix::entry::Outcome;
 use logix::entry::Refusal;
 use model::Flags;
+use pallet::Whole;
 ghost use mathlib.Core.Path.{_≡_};
 ghost use mathlib.Core.Bool.{true};
 ghost use Prim.Native.Nat.{_+_, _≤_};
@@ -14,7 +15,8 @@ ghost use Rattle.definition.specs.Entry.{entry};
 ghost use Rattle.model.specs.Tables.{tablesOf, flagsOf};
 ghost use Rattle.services.specs.Answers.{Answers};
 ghost use Rattle.logix.specs.Entering.{numberOf};
-ghost use Rattle.export.specs.Entries.{flagsIn, Told};
+ghost use Rattle.pallet.specs.Whole.{wholeRead};
+ghost use Rattle.export.specs.Entries.{flagsIn, Told, wholeCode, ToldWhole};
 
 /// What a refusal's number is added to: no reply is so long.
 const REFUSED: u64 = 0x1_0000_0000;
@@ -39,6 +41,29 @@ fn number_of(why: Refusal) -> u64
         Refusal::LimitTooLarge => 2,
         Refusal::BufferTooShort => 3,
         Refusal::TablesInvalid => 4,
+    }
+}
+
+/// Why nothing was joined.
+const TURNED: u64 = 0x2_0000_0000;
+
+const TOO_SHORT: u64 = 0x3_0000_0000;
+
+const TOO_NARROW: u64 = 0x4_0000_0000;
+
+const UNSENDABLE: u64 = 0x5_0000_0000;
+
+/// A whole read's result in 64 bits.
+fn whole_code(w: Whole) -> u64
+    ensures { λ r. ⌜ r ≡ wholeCode w ⌝ }
+{
+    match w {
+        Whole::Joined(n) => long(n),
+        Whole::Refused(number) => REFUSED + number as u64,
+        Whole::Turned(status) => TURNED + status as u64,
+        Whole::TooShort(n) => TOO_SHORT + long(n) % REFUSED,
+        Whole::TooNarrow => TOO_NARROW,
+        Whole::Unsendable => UNSENDABLE,
     }
 }
 
@@ -153,4 +178,44 @@ pub extern "C" fn ciplink_message(
         Outcome::Reply(n) => long(n),
         Outcome::Refused(why) => REFUSED + number_of(why),
     }
+}
+
+/// Reads all of what a path and an element count select into `out`: the number of bytes joined, or why nothing was (ciplink.h has the numbers).
+#[no_mangle]
+pub extern "C" fn ciplink_read_whole(
+    structures: &[[u32; 10]],
+    members: &[[u32; 9]],
+    programs: &[[u32; 2]],
+    tags: &[[u32; 12]],
+    others: &[[u32; 5]],
+    names: &[u8],
+    tag_names: &[u8],
+    templates: &[u8],
+    flags: u32,
+    memory: &mut [u8],
+    path: &[u8],
+    elements: u16,
+    limit: usize,
+    buf: &mut [u8],
+    out: &mut [u8],
+) -> u64
+    ensures { λ r. ⌜ ToldWhole (wholeRead (tablesOf (now (structures .entry)) (now (members .entry)) (now (programs .entry)) (now (tags .entry)) (now (others .entry)) (now (names .entry)) (now («tag_names» .entry)) (now (templates .entry))) (flagsIn flags) (now (memory .entry)) (now (path .entry)) elements limit (length (now (buf .entry))) (now (out .entry))) r (now (out .exit)) × (now (memory .exit) ≡ now (memory .entry)) ⌝ }
+{
+    whole_code(pallet::read_whole(
+        structures,
+        members,
+        programs,
+        tags,
+        others,
+        names,
+        tag_names,
+        templates,
+        flags_of(flags),
+        memory,
+        path,
+        elements,
+        limit,
+        buf,
+        out,
+    ))
 }

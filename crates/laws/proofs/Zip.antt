@@ -3,7 +3,7 @@
 use mathlib.Core.Path.{_≡_, refl, ap}
 use mathlib.Core.Bool.{Bool, true, false}
 use mathlib.Core.List.{List, [], _∷_}
-use Prim.Native.Nat.{ℕ, suc, _+_, _<_, _≤_}
+use Prim.Native.Nat.{ℕ, zero, suc, _+_, _<_, _≤_}
 use native.Mathlib.Numerals.{add-one}
 use native.Mathlib.Omega.{arith}
 use lib.ListN.{length, getD, drop, drop-of-length-le}
@@ -21,6 +21,15 @@ agree-length p [] [] h = absurd (h refl)
 agree-length p [] (y ∷ ys) h = refl
 agree-length p (x ∷ xs) [] h = refl
 agree-length p (x ∷ xs) (y ∷ ys) h = both-false (p x y) (agree-length p xs ys (λ e. h (ap suc e)))
+
+-- one place where they differ is enough
+pub agree-at : {A B : Type 0} (p : A → B → Bool) (d : A) (f : B) (i : ℕ) (a : List A) (b : List B)
+    → i < length a → length a ≡ length b → p (getD a i d) (getD b i f) ≡ false → false ≡ agree p a b
+unfolding agree
+agree-at p d f i [] b h l e = absurd (omega arith)
+agree-at p d f i (x ∷ xs) [] h l e = refl
+agree-at p d f zero (x ∷ xs) (y ∷ ys) h l e = rw e
+agree-at p d f (suc i) (x ∷ xs) (y ∷ ys) h l e = both-false (p x y) (agree-at p d f i xs ys (omega arith) (omega arith) e)
 
 module _ {A B : Type 0} (p : A → B → Bool) (d : A) (f : B) (i : ℕ) (a : List A) (b : List B) (here : agree p (drop i a) (drop i b) ≡ agree p a b) (long : length a ≡ length b) where
   pub agree-next : {r : Bool} {j : ℕ} → i < length a → r ≡ p (getD a i d) (getD b i f) → r ≡ true → j ≡ i + 1 → agree p (drop j a) (drop j b) ≡ agree p a b

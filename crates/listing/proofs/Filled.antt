@@ -144,8 +144,8 @@ module _ (t : Tables) (scope : ℕ) (attributes : List ℕ) (start service limit
         → filled service (eqb used 4) (end - used) (f .bytes) es ≡ ys → ys ≡ pageReply service (due t scope attributes start) limit
     rest-is f es ys d e = sym e ∙ ap (λ (l : List Entry). filled service (eqb used 4) (end - used) (f .bytes) l) (sym d) ∙ f .goes-on
 
-    added : {u b : ℕ} → Fills used bound x → used + 4 ≤ u → end ≤ length old → Steps (More u b) → Fills u b y
-    added {u} {b} f k h (more e d a l p) = record {
+    added : {u b n : ℕ} → Fills used bound x → used + 4 ≤ u → end ≤ length old → Steps (More u b n) → Fills u b y
+    added {u} {b} {n} f k h (more e d a l p) = record {
       bytes = f .bytes ++ e .bytes;
       used-is = simp length-append (omega arith);
       buffer-is = put-then old x y 4 (f .bytes) used (e .bytes) (f .buffer-is) p (f .used-is) (omega arith);
@@ -167,7 +167,7 @@ module _ (t : Tables) (scope : ℕ) (attributes : List ℕ) (start service limit
       ended (done d p) w = answered _ (rest-is f _ _ d (filled-done service end used (f .bytes))) (rw (p, data-are) at w)
 
     module _ (s : Step) (f : Fills used bound x) (step : Steps s) where
-      pub entry-added : {u b : ℕ} → s ≡ More u b → used + 4 ≤ u → end ≤ length old → Fills u b y
+      pub entry-added : {u b n : ℕ} → s ≡ More u b n → used + 4 ≤ u → end ≤ length old → Fills u b y
       entry-added q k h = added f k h (rw q at step)
 
       pub page-stopped : {r : ℕ} {z : List ℕ} → s ≡ Full → used ≤ end → end ≡ max 4 limit → room limit ≤ length old
@@ -178,5 +178,5 @@ module _ (t : Tables) (scope : ℕ) (attributes : List ℕ) (start service limit
           → Laid limit (reply service success (part y 4 (used - 4))) y r z → Answers r z
       page-ended q h e k w = ended _ _ f (omega arith) k (rw q at step) w
 
-pub further-more : (used limit : ℕ) {u b : ℕ} (s : Step) → s ≡ More u b → Further used limit s → (used + 4 ≤ u) × (u ≤ limit)
+pub further-more : (used limit : ℕ) {u b n : ℕ} (s : Step) → s ≡ More u b n → Further used limit s → (used + 4 ≤ u) × (u ≤ limit)
 further-more used limit s q f = rw q at f

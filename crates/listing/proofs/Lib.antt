@@ -5,5 +5,6 @@ pub mod Objects
 pub mod Attributed
 pub mod Made
 pub mod Paged
+pub mod Hinted
 pub mod Filled
 pub mod Starts

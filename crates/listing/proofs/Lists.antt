@@ -32,10 +32,15 @@ use Rattle.listing.proofs.Sizes.{put-none}
 
 -- ---- the numbers
 
-u16-drop : (s : List ℕ) (a k j : ℕ) → j ≡ a + k → u16At (drop a s) k ≡ u16At s j
+pub u16-drop : (s : List ℕ) (a k j : ℕ) → j ≡ a + k → u16At (drop a s) k ≡ u16At s j
 u16-drop s a k j e =
     let d : a + (k + 1) ≡ j + 1 = omega arith in
     rw (getD-drop a s k 0, getD-drop a s (k + 1) 0, d, ← e)
+
+pub numbers-long : (n : ℕ) (s : List ℕ) → length (numbers n s) ≡ n
+unfolding numbers
+numbers-long zero s = refl
+numbers-long (suc n) s = ap suc (numbers-long n (drop 2 s))
 
 numbers-snoc : (i : ℕ) (s : List ℕ) → numbers (suc i) s ≡ numbers i s ++ (u16At s (2 * i) ∷ [])
 unfolding numbers
@@ -241,11 +246,6 @@ module _ (limit service : ℕ) (o : Object) (body old : List ℕ) where
     module _ (c : Count) (k n : ℕ) (q : c ≡ Of k) (e : c ≡ countIn body) (same : n ≡ k) where
       list-is : counted body ≡ some (numbers n (drop 2 body))
       list-is = rw same (counted-some body k (sym q ∙ e))
-
-      numbers-long : (i : ℕ) (s : List ℕ) → length (numbers i s) ≡ i
-      unfolding numbers
-      numbers-long zero s = refl
-      numbers-long (suc i) s = ap suc (numbers-long i (drop 2 s))
 
       pub list-large : (m : ℕ) → m ≡ 6 + length (entriesTo o body n) → limit < m → Laid limit (fail service tooLarge) old r new → ListLaid
       list-large m u h l =

@@ -34,6 +34,7 @@ use Rattle.model.specs.Rows.{foundOf}
 use Rattle.model.specs.Tables.{tablesOf}
 use Rattle.model.specs.declared.lookup.Found.{Found}
 use Rattle.model.specs.declared.lookup.Found.the-variants.{At, Nothing as NotFound}
+use Rattle.model.proofs.Cases.{found-some, found-none}
 use Rattle.listing.specs.Objects.{programBy, countIn}
 use Rattle.listing.specs.Entries.{EachValid, SomeValid}
 use Rattle.listing.specs.Pages.{beginOf, firstOf, startWith, BeginsAt, Begins, SomeListed, Lists}
@@ -97,14 +98,6 @@ module _ (path : List ℕ) (at scope : ℕ) where
 pub ruleset starts = (start-none, start-class, start-more, start-well)
 
 -- ---- what a lookup found
-
-found-some : (o : Option ℕ) (v : Found) (k : ℕ) → v ≡ foundOf o → v ≡ At k → o ≡ some k
-found-some none v k e q = clash (cc (e, q))
-found-some (some j) v k e q = let h : j ≡ k = cc (e, q) in rw h
-
-found-none : (o : Option ℕ) (v : Found) → v ≡ foundOf o → v ≡ NotFound → o ≡ none
-found-none none v e q = refl
-found-none (some j) v e q = clash (cc (e, q))
 
 program-by : (programs : List Row) (names name : List ℕ) → Inside (length programs) (programBy programs names name)
 unfolding programBy programIn

@@ -7,10 +7,11 @@ use lib.Dec.{eqb}
 use lib.ListN.{length}
 use Rattle.laws.specs.Pick.{pick}
 use Rattle.laws.specs.Put.{put}
+use Rattle.laws.specs.Tests.{every, pairs}
 use Rattle.definition.specs.Bytes.{le16, le32, part}
 use Rattle.definition.specs.Reply.{reply, fail, partial, tooLarge}
 use Rattle.definition.specs.Tables.{Tables, Row, tagName, tagElements, tagAccess, otherName}
-use Rattle.definition.specs.Valid.{valid}
+use Rattle.definition.specs.Valid.{idsDiffer, valid}
 use Rattle.definition.specs.Page.{Entry}
 use Rattle.definition.specs.Symbols.{Symbol as Defined, tagSymbol, otherSymbol, due}
 use Rattle.model.specs.Tables.{tablesOf}
@@ -52,17 +53,17 @@ OtherMade r s =
     (structures members programs tags others : List Row) (names tagNames templates : List ℕ)
     → made (otherName names r) s ≡ otherSymbol (tablesOf structures members programs tags others names tagNames templates) r
 
--- what a step of a page leaves: one entry more and the next bound, or an entry that does not fit, or nothing due
+-- what a step of a page leaves: one entry more, the next bound and any hint, or an entry that does not fit, or nothing due
 pub data Stepped (t : Tables) (scope : ℕ) (attributes : List ℕ) (limit used bound : ℕ) (old : List ℕ) : Step → List ℕ → Type 0 where
-  more : {u b : ℕ} {new : List ℕ} (e : Entry) → due t scope attributes bound ≡ e ∷ due t scope attributes b → u ≡ used + length (e .bytes) → u ≤ limit
-      → new ≡ put old used (e .bytes) → Stepped t scope attributes limit used bound old (More u b) new
+  more : {u b h : ℕ} {new : List ℕ} (e : Entry) → due t scope attributes bound ≡ e ∷ due t scope attributes b → u ≡ used + length (e .bytes) → u ≤ limit
+      → new ≡ put old used (e .bytes) → Stepped t scope attributes limit used bound old (More u b h) new
   full : {new : List ℕ} (e : Entry) (es : List Entry) → due t scope attributes bound ≡ e ∷ es → limit < used + length (e .bytes)
       → new ≡ old → Stepped t scope attributes limit used bound old Full new
   done : {new : List ℕ} → due t scope attributes bound ≡ [] → new ≡ old → Stepped t scope attributes limit used bound old Done new
 
 -- the same of one symbol
 pub data Entered (bytes : List ℕ) (limit used id : ℕ) (old : List ℕ) : Step → List ℕ → Type 0 where
-  put-in : {u b : ℕ} {new : List ℕ} → b ≡ suc id → u ≡ used + length bytes → u ≤ limit → new ≡ put old used bytes → Entered bytes limit used id old (More u b) new
+  put-in : {u b h : ℕ} {new : List ℕ} → b ≡ suc id → u ≡ used + length bytes → u ≤ limit → new ≡ put old used bytes → Entered bytes limit used id old (More u b h) new
   left-out : {new : List ℕ} → limit < used + length bytes → new ≡ old → Entered bytes limit used id old Full new
 
 -- what holds of every valid table set with these tables
@@ -79,9 +80,13 @@ pub record SomeValid (structures tags others : List Row) (names tagNames : List 
   pub memory : ℕ
   pub ok : valid (tablesOf structures members programs tags others names tagNames templates) memory ≡ true
 
+-- T3 between tags, and between a tag and another symbol: those of one scope have different IDs
+abbrev pub IdsApart : (tags others : List Row) → Type 0
+IdsApart tags others = (pairs idsDiffer tags ≡ true) × (every (λ r. every (idsDiffer r) others) tags ≡ true)
+
 -- a step goes on past the ID's four bytes, up to the limit
 abbrev pub Further : (used limit : ℕ) → Step → Type 0
-Further used limit (More u b) = (used + 4 ≤ u) × (u ≤ limit)
+Further used limit (More u b h) = (used + 4 ≤ u) × (u ≤ limit)
 Further used limit Full = Unit {0}
 Further used limit Done = Unit {0}
 

@@ -9,7 +9,9 @@ ghost use mathlib.Core.Path.{_≡_};
 ghost use mathlib.Core.Bool.{false};
 ghost use mathlib.Core.List.{_++_};
 ghost use Prim.Native.Nat.{suc, _+_, _-_, _*_, _≤_, max};
+ghost use lib.Dec.{eqb};
 ghost use lib.ListN.{length, drop};
+ghost use Rattle.laws.specs.Pick.{both};
 ghost use Rattle.definition.specs.Bytes.{le32, numbers, part};
 ghost use Rattle.definition.specs.Reply.{reply, room};
 ghost use Rattle.definition.specs.Page.{pageReply};
@@ -17,11 +19,12 @@ ghost use Rattle.definition.specs.Symbols.{attributesOf, isListed, due};
 ghost use Rattle.cip.specs.Statuses.{statusOf, hasWord};
 ghost use Rattle.cip.specs.Writes.{Laid};
 ghost use Rattle.laws.specs.Tests.{every};
-ghost use Rattle.listing.specs.Entries.{made, Entered, Stepped, EachValid, SomeValid, Further, stopped};
+ghost use Rattle.model.specs.Least.{nextIn};
+ghost use Rattle.listing.specs.Entries.{made, Entered, Stepped, EachValid, SomeValid, IdsApart, Further, stopped};
 
-/// A step of a page: where the entries end and the least ID of the next one; an entry that does not fit; nothing due.
+/// A step of a page: where the entries end, the least ID of the next one and the tag to try first; an entry that does not fit; nothing due.
 pub enum Step {
-    More(usize, u64),
+    More(usize, u64, usize),
     Full,
     Done,
 }
@@ -77,11 +80,12 @@ pub fn all_listed(body: &[u8], n: usize) -> bool
     true
 }
 
-/// A symbol's entry, if it fits.
+/// A symbol's entry, if it fits. After it the tag at `next` is tried first.
 pub fn entry_step(
     name: &[u8],
     s: Symbol,
     id: u32,
+    next: usize,
     body: &[u8],
     n: usize,
     limit: usize,
@@ -97,10 +101,34 @@ pub fn entry_step(
     }
     cip::put_u32(buf, used, s.id);
     let end = entries::put_attributes(buf, used + 4, name, s, body, n);
-    Step::More(end, after(id))
+    Step::More(end, after(id), next)
 }
 
-/// The entry of the least ID not below a bound.
+/// Whether a row's scope and ID are those looked for.
+fn is_at(row_scope: u32, id: u32, scope: u32, bound: u64) -> bool
+    ensures { λ r. ⌜ r ≡ both (eqb «row_scope» scope) (eqb id bound) ⌝ }
+{
+    if row_scope != scope {
+        return false;
+    }
+    id as u64 == bound
+}
+
+/// The symbol of the least ID not below a bound. The tag at the hint is it if its ID is the bound itself: none due can be less,
+/// and no other symbol of the scope has that ID. Else it is searched for.
+fn next_near(tags: &[[u32; 12]], others: &[[u32; 5]], scope: u32, bound: u64, hint: usize) -> Next
+    requires { ⌜ IdsApart (now tags) (now others) ⌝ }
+    ensures { λ r. ⌜ r ≡ nextIn (now (tags .entry)) (now (others .entry)) scope bound ⌝ }
+{
+    if hint < tags.len() {
+        if is_at(tags[hint][0], tags[hint][3], scope, bound) {
+            return Next::Tag(hint, tags[hint][3]);
+        }
+    }
+    model::least::next_symbol(tags, others, scope, bound)
+}
+
+/// The entry of the least ID not below a bound. Tags mostly stand by ascending ID: after one, the tag behind it is tried first.
 pub fn page_step(
     structures: &[[u32; 10]],
     tags: &[[u32; 12]],
@@ -109,6 +137,7 @@ pub fn page_step(
     tag_names: &[u8],
     scope: u32,
     bound: u64,
+    hint: usize,
     body: &[u8],
     n: usize,
     limit: usize,
@@ -118,13 +147,14 @@ pub fn page_step(
     requires { ⌜ SomeValid (now structures) (now tags) (now others) (now names) (now «tag_names») × (2 + 2 * n ≤ length (now body)) × (n ≤ 65535) × (used ≤ limit) × (limit ≤ length (now buf)) ⌝ }
     ensures { λ r. ⌜ EachValid (now (structures .entry)) (now (tags .entry)) (now (others .entry)) (now (names .entry)) (now («tag_names» .entry)) (λ t. Stepped t scope (numbers n (drop 2 (now (body .entry)))) limit used bound (now (buf .entry)) r (now (buf .exit))) × Further used limit r ⌝ }
 {
-    match model::least::next_symbol(tags, others, scope, bound) {
+    match next_near(tags, others, scope, bound, hint) {
         Next::Tag(i, id) => {
             let name = model::lookup::part_of(tag_names, tags[i][1], tags[i][2]);
             entry_step(
                 name,
                 symbols::tag_symbol(structures, &tags[i]),
                 id,
+                i + 1,
                 body,
                 n,
                 limit,
@@ -138,6 +168,7 @@ pub fn page_step(
                 name,
                 symbols::other_symbol(&others[i]),
                 id,
+                hint,
                 body,
                 n,
                 limit,
@@ -201,6 +232,7 @@ pub fn put_page(
     let end = end_of(limit);
     let mut used = replies::HEADER;
     let mut bound = start as u64;
+    let mut hint = 0;
     loop {
         match page_step(
             structures,
@@ -210,15 +242,17 @@ pub fn put_page(
             tag_names,
             scope,
             bound,
+            hint,
             body,
             n,
             end,
             used,
             buf,
         ) {
-            Step::More(u, b) => {
+            Step::More(u, b, h) => {
                 used = u;
                 bound = b;
+                hint = h;
             }
             Step::Full => {
                 return stop(service, used, limit, buf);

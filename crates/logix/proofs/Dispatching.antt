@@ -12,9 +12,9 @@ use borrow.Author.Tests.{eq-eqb, ne-eqb, not-true, not-false}
 use Rattle.laws.specs.Pick.{pick, both, isSome}
 use Rattle.laws.proofs.Chain.{by-test, clash}
 use Rattle.definition.specs.Bytes.{u16At, part}
-use Rattle.definition.specs.Reply.{answered, reply, room, fail, pathError, notSupported, tooShort}
+use Rattle.definition.specs.Reply.{reply, room, fail, pathError, notSupported, tooShort}
 use Rattle.definition.specs.Segment.{Segment, class, instance, segments}
-use Rattle.definition.specs.Request.{malformed, request, withPath, requestOf, objectOf}
+use Rattle.definition.specs.Request.{withPath, requestOf, objectOf}
 use Rattle.definition.specs.Tables.{Tables, Flags, takesEnvelopes}
 use Rattle.definition.specs.Envelope.{Dispatcher, partAnswer, partsOf, runParts, closeEnvelope, envelope, envelopeService}
 use Rattle.definition.specs.Answer.{plain, partDispatch, isRouter, anyRequest, plainRequest, answer}

@@ -3,7 +3,6 @@
 use mathlib.Core.Path.{_≡_, refl, sym, ap, _∙_}
 use mathlib.Core.Bool.{Bool, true, false}
 use mathlib.Core.List.{List, [], _∷_, _++_, append-nil}
-use mathlib.Core.Option.{some}
 use Prim.Native.Nat.{ℕ, suc, _+_, _-_, _*_, _≤_, _<_}
 use native.Mathlib.Omega.{arith}
 use native.Mathlib.Numerals.{add-one}
@@ -19,11 +18,12 @@ use Rattle.laws.specs.Tests.{every}
 use Rattle.laws.proofs.Put.{take-put, drop-put-past, zeroed-laid}
 use Rattle.definition.specs.Bytes.{le16, numbers, part}
 use Rattle.definition.specs.Reply.{Answer, answered, Status, general, extended, reply, room, fail, tooLarge}
-use Rattle.definition.specs.Envelope.{Dispatcher, partAnswer, partsFrom, runParts, andReply, joinAll, offsetsFrom, envelopeReply, closeEnvelope, envelope, envelopeService}
+use Rattle.definition.specs.Envelope.{Dispatcher, partAnswer, partsFrom, runParts, andReply, joinAll, offsetsFrom, envelopeReply, closeEnvelope, envelopeService}
 use Rattle.services.specs.Answers.{Answers}
 use Rattle.logix.specs.Placed.{PartOf, PartAnswers, Marked, outcomeOf, Closed}
 use Rattle.logix.specs.declared.parts.PartReply.{PartReply}
-use Rattle.logix.proofs.Offsets.{numbers-long, parts-long}
+use Rattle.listing.proofs.Lists.{numbers-long}
+use Rattle.logix.proofs.Offsets.{parts-long}
 use Rattle.logix.proofs.Bytes.{part-stays, part-grows, laid-drop}
 use Rattle.logix.proofs.Turns.{join-one, offsets-one, offsets-long, every-one, before, before-one}
 

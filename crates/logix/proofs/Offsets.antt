@@ -9,26 +9,17 @@ use native.Mathlib.Omega.{arith}
 use native.Mathlib.Numerals.{add-one}
 use lib.Dec.{ltb, leb}
 use lib.ListN.{length, getD, drop, length-take, drop-of-length-le, List·getD-eq-default}
-use lib.Seq.{getD-drop, drop-cons}
+use lib.Seq.{drop-cons}
 use borrow.Author.Tests.{lt-ltb, le-ltb, le-leb, lt-leb, leb-true, ltb-true, ltb-false}
 use Rattle.laws.specs.Pick.{pick, isSome}
 use Rattle.laws.proofs.Chain.{by-test, clash}
 use Rattle.laws.proofs.Tests.{both-true}
 use Rattle.definition.specs.Bytes.{u16At, numbers, part, counted}
 use Rattle.definition.specs.Envelope.{ascending, partsFrom, partsOf}
+use Rattle.listing.proofs.Lists.{u16-drop, numbers-long}
 use Rattle.logix.specs.Placed.{markAt, PartOf}
 
 -- ---- the numbers of a list by their index
-
-u16-drop : (s : List ℕ) (a k j : ℕ) → j ≡ a + k → u16At (drop a s) k ≡ u16At s j
-u16-drop s a k j e =
-    let d : a + (k + 1) ≡ j + 1 = omega arith in
-    rw (getD-drop a s k 0, getD-drop a s (k + 1) 0, d, ← e)
-
-pub numbers-long : (n : ℕ) (s : List ℕ) → length (numbers n s) ≡ n
-unfolding numbers
-numbers-long zero s = refl
-numbers-long (suc n) s = ap suc (numbers-long n (drop 2 s))
 
 numbers-at : (n : ℕ) (s : List ℕ) (i d : ℕ) → i < n → getD (numbers n s) i d ≡ u16At s (2 * i)
 unfolding numbers

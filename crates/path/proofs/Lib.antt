@@ -4,3 +4,7 @@ pub mod Segments
 pub mod TagPaths
 pub mod Objects
 pub mod Laws
+pub mod Branches
+pub mod Counts
+pub mod Cursors
+pub mod Thin

@@ -1,6 +1,6 @@
 // Decoding request paths: segments by a table of their first bytes, whole paths, requests, tag paths and program names.
 ghost use mathlib.Core.Path.{_≡_};
-ghost use mathlib.Core.Bool.{true};
+ghost use mathlib.Core.Bool.{true, false};
 ghost use Prim.Native.Nat.{_+_, _*_, _≤_, _<_};
 ghost use lib.ListN.{length};
 ghost use Rattle.laws.specs.Pick.{isSome};
@@ -21,6 +21,8 @@ ghost use Rattle.path.specs.Decode.{
   nextAfter,
 };
 ghost use Rattle.path.specs.Paths.{Decoded, checkOf, splitOf, tagPathFrom, symbolObject, objectBehind, ObjectAt};
+
+pub mod reader;
 
 // What the first byte of a segment says: four times the kind, plus the form.
 // Kinds: 0 none, 1 port, 2 class, 3 instance, 4 element, 5 attribute, 6 symbol.
@@ -554,11 +556,26 @@ fn same_byte(x: u8, y: u8) -> bool
     lower(x) == lower(y)
 }
 
+/// Whether names of one length differ in their last byte: a plant's names often begin alike, so most comparisons end here.
+fn ends_unlike(a: &[u8], b: &[u8]) -> bool
+    requires { ⌜ length (now a) ≡ length (now b) ⌝ }
+    ensures { λ r. ⌜ (r ≡ true → false ≡ sameName (now (a .entry)) (now (b .entry))) ⌝ }
+{
+    if a.len() == 0 {
+        return false;
+    }
+    let last = a.len() - 1;
+    !same_byte(a[last], b[last])
+}
+
 /// Whether two names agree, ignoring the case of A to Z.
 pub fn same_name(a: &[u8], b: &[u8]) -> bool
     ensures { λ r. ⌜ r ≡ sameName (now (a .entry)) (now (b .entry)) ⌝ }
 {
     if a.len() != b.len() {
+        return false;
+    }
+    if ends_unlike(a, b) {
         return false;
     }
     let mut i = 0;

@@ -1,6 +1,6 @@
 -- The row that a lookup found, a structure's members, and the move to one of them.
 -- Assumes nothing.
-use mathlib.Core.Path.{_≡_, refl, sym, _∙_}
+use mathlib.Core.Path.{_≡_, refl}
 use mathlib.Core.Logic.{_≢_}
 use mathlib.Core.Bool.{Bool, true, false}
 use mathlib.Core.List.{List, [], _∷_}
@@ -21,19 +21,12 @@ use Rattle.definition.specs.Lookup.{first, memberIn, tagIn, idIn, programIn}
 use Rattle.model.specs.Rows.{foundOf}
 use Rattle.model.specs.declared.lookup.Found.{Found}
 use Rattle.model.specs.declared.lookup.Found.the-variants.{At, Nothing}
+use Rattle.model.proofs.Cases.{found-some, found-none}
 use Rattle.resolve.specs.declared.places.Place.{Place}
 use Rattle.resolve.specs.Places.{placeOf, openLengths}
 use Rattle.resolve.specs.Members.{amongBy, amongMembers, memberMove}
 
 -- ---- the row that a lookup found
-
-pub found-some : (o : Option ℕ) (v : Found) (i : ℕ) → v ≡ foundOf o → v ≡ At i → o ≡ some i
-found-some none v i e g = clash (cc (sym e ∙ g))
-found-some (some j) v i e g = cc (sym e ∙ g)
-
-pub found-none : (o : Option ℕ) (v : Found) → v ≡ foundOf o → v ≡ Nothing → o ≡ none
-found-none none v e g = refl
-found-none (some j) v e g = clash (cc (sym e ∙ g))
 
 first-inside : (p : Row → Bool) (rows : List Row) (i : ℕ) → first p rows ≡ some i → i < length rows
 first-inside p rows i = scan-all p (λ o. o ≡ some i → i < length rows) some none 0 rows (λ e. clash (cc e)) (λ j h e. let k : j ≡ i = cc e in omega (arith, h, k))

@@ -37,7 +37,8 @@ use Rattle.resolve.specs.declared.start.Prefix.the-variants.{Program, No
 use Rattle.resolve.specs.Paths.{left}
 use Rattle.resolve.specs.Starts.{startAt, instanceStart, inScopeOf, inProgramOf, Begins, BeginsPath, ProgramFirst, Prefixed}
 use Rattle.resolve.proofs.Lefts.{left-end, left-step, left-cut, found-at, name-at, some-left}
-use Rattle.resolve.proofs.Rows.{found-some, found-none, tag-inside, id-inside, program-inside}
+use Rattle.model.proofs.Cases.{found-some, found-none}
+use Rattle.resolve.proofs.Rows.{tag-inside, id-inside, program-inside}
 
 -- ---- what a lookup found
 

@@ -1,10 +1,10 @@
 -- The choice of the service, from the tests that led to it.
 -- Assumes nothing.
-use mathlib.Core.Path.{_≡_, refl, sym, ap, subst, _∙_}
+use mathlib.Core.Path.{_≡_, refl, sym, ap, _∙_}
 use mathlib.Core.Bool.{Bool, true, false, not}
-use mathlib.Core.List.{List, [], _∷_}
+use mathlib.Core.List.{List, _∷_}
 use mathlib.Core.Logic.{_≢_}
-use mathlib.Core.Option.{some, none}
+use mathlib.Core.Option.{some}
 use Prim.Native.Nat.{ℕ}
 use lib.Dec.{eqb}
 use lib.ListN.{length}
@@ -12,10 +12,10 @@ use borrow.Author.Tests.{eq-eqb, ne-eqb}
 use Rattle.laws.specs.Pick.{pick, both}
 use Rattle.laws.proofs.Chain.{pick-map}
 use Rattle.definition.specs.Reply.{Answer, Status, answered, fail, notSupported, pathUnknown}
-use Rattle.definition.specs.Segment.{Segment, class, instance, segments, segmentsFrom}
-use Rattle.definition.specs.Request.{objectOf, object, isTagPath}
+use Rattle.definition.specs.Segment.{Segment, class, instance, segments}
+use Rattle.definition.specs.Request.{objectOf, isTagPath}
 use Rattle.definition.specs.Tables.{Tables, Flags, Row}
-use Rattle.definition.specs.Lookup.{structureWithTemplate, templateIn}
+use Rattle.definition.specs.Lookup.{templateIn}
 use Rattle.definition.specs.Valid.{valid}
 use Rattle.definition.specs.Attributes.{structureAttributes, symbolAttributes}
 use Rattle.definition.specs.Answer.{capped, otherwise, isTagService, tagService, byService, byObject, readTemplate, plain}

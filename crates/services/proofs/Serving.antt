@@ -1,30 +1,28 @@
 -- A tag service's answer, from what the target's function left.
 -- Assumes nothing.
-use mathlib.Core.Path.{_≡_, refl, sym, ap, subst, _∙_}
+use mathlib.Core.Path.{_≡_, refl, subst}
 use mathlib.Core.Bool.{Bool, true, false}
 use mathlib.Core.List.{List, []}
 use mathlib.Core.Logic.{_≢_}
-use mathlib.Core.Option.{some}
 use Prim.Native.Nat.{ℕ}
-use lib.Dec.{eqb}
 use borrow.Author.Tests.{eq-eqb, ne-eqb}
 use Rattle.laws.specs.Pick.{isSome}
-use Rattle.definition.specs.Reply.{Answer, answered, fail}
-use Rattle.definition.specs.Segment.{Segment, segments}
+use Rattle.definition.specs.Reply.{answered, fail}
+use Rattle.definition.specs.Segment.{segments}
 use Rattle.definition.specs.Tables.{Tables, Flags, Row}
 use Rattle.definition.specs.Read.{readReply}
 use Rattle.definition.specs.Write.{Stored, storeAnswer, writeStored}
 use Rattle.definition.specs.Masked.{maskedStored}
-use Rattle.definition.specs.Resolve.{found, turned}
+use Rattle.definition.specs.Resolve.{turned}
 use Rattle.definition.specs.Valid.{valid}
 use Rattle.definition.specs.Access.{tagTarget}
-use Rattle.definition.specs.Answer.{isRead, isWrite, onTarget, tagService}
+use Rattle.definition.specs.Answer.{isRead, isWrite, tagService}
 use Rattle.cip.specs.Statuses.{statusOf}
 use Rattle.cip.specs.Writes.{Laid}
 use Rattle.cip.specs.declared.Status.{Status}
 use Rattle.model.specs.Tables.{tablesOf, targetOf, Aimed}
 use Rattle.model.specs.declared.Target.{Target}
-use Rattle.resolve.specs.Answers.{Tabled, Targets}
+use Rattle.resolve.specs.Answers.{Targets}
 use Rattle.resolve.specs.declared.Resolved.{Resolved}
 use Rattle.resolve.specs.declared.Resolved.the-variants.{Found, Turned}
 use Rattle.resolve.proofs.Answering.{found-aimed}
@@ -36,9 +34,6 @@ use Rattle.services.specs.Services.{onFound}
 -- a reply that leaves tag memory as it was
 pub laid-answers : (limit : ℕ) (bytes old : List ℕ) (r : ℕ) (new memory : List ℕ) → Laid limit bytes old r new → Answers limit (answered bytes memory) old r new memory
 laid-answers limit bytes old r new memory h = record { length-is = h .length-is; buffer-is = h .buffer-is; memory-is = refl }
-
-pub same-answers : (limit : ℕ) (a b : Answer) (old : List ℕ) (r : ℕ) (new memory : List ℕ) → b ≡ a → Answers limit a old r new memory → Answers limit b old r new memory
-same-answers limit a b old r new memory e h = rw e h
 
 -- a write's answer, by its status
 stored-answers : (limit service : ℕ) (s : Stored) (old : List ℕ) (r : ℕ) (new before after : List ℕ) (status : Status)
@@ -93,9 +88,6 @@ module _ (structures members programs tags others : List Row) (names tagNames te
 
 module _ (structures members programs tags others : List Row) (names tagNames templates path : List ℕ) (f : Flags) (writes : Bool) (memory : ℕ)
     (ok : valid (tablesOf structures members programs tags others names tagNames templates) memory ≡ true) (decodes : isSome (segments path) ≡ true) where
-  pub tag-tabled : Tabled structures members programs tags names tagNames
-  tag-tabled = record { others = others; templates = templates; memory = memory; ok = ok }
-
   pub tag-aimed : (g : Target) (resolved : Resolved) → resolved ≡ Found g → Targets structures members programs tags names tagNames f writes path resolved → Aimed structures memory g
   tag-aimed g resolved e target =
       found-aimed structures members programs tags others names tagNames templates path f writes g memory ok decodes

@@ -30,7 +30,7 @@ use Rattle.cip.specs.declared.Status.{Status as CodeStatus}
 
 -- ---- what is asked
 
-ask-by : (structures : List Row) (g : Target) (elements : ℕ)
+pub ask-by : (structures : List Row) (g : Target) (elements : ℕ)
     → ask structures g elements ≡ askedBy (selection structures g elements) (grantOf (g .bit) (g .count) elements)
 unfolding ask
 ask-by structures g elements =

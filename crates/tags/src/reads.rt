@@ -23,7 +23,7 @@ ghost use Rattle.tags.specs.Reading.{grantOf, headerSize, readFields, re
 const READ_FRAGMENTED: u8 = 0x52;
 
 /// Whether a read may send something, offset aside.
-enum Grant {
+pub enum Grant {
     Granted,
     Refused(Status),
 }
@@ -53,7 +53,7 @@ pub fn chunk<'a>(
 }
 
 /// What a read's refusals say, in order: a bit is one element, no elements, more than there are.
-fn ask_of(bit: u32, count: usize, elements: usize) -> Grant
+pub fn ask_of(bit: u32, count: usize, elements: usize) -> Grant
     ensures { λ r. ⌜ r ≡ grantOf bit count elements ⌝ }
 {
     if bit != NO_BIT {
@@ -72,7 +72,7 @@ fn ask_of(bit: u32, count: usize, elements: usize) -> Grant
 }
 
 /// The length of a type header.
-fn header_size(ty: u32) -> usize
+pub fn header_size(ty: u32) -> usize
     ensures { λ r. ⌜ r ≡ headerSize ty ⌝ }
 {
     if ty < FIRST_STRUCTURE { 2 } else { 4 }

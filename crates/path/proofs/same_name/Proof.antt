@@ -17,14 +17,17 @@ abbrev μ-loop : tie.MeasureT-loop
 returns : tie.Need-returns Inv-loop μ-loop
 returns c = search agrees
 
+returns-2 : tie.Need-returns-2 Inv-loop μ-loop
+returns-2 c = c .before .ends-unlike .ensures (c .if2 .taken)
+
 loop-again : tie.Need-loop-again Inv-loop μ-loop
 loop-again c = (search needs, search needs, search agrees)
 
-returns-2 : tie.Need-returns-2 Inv-loop μ-loop
-returns-2 c = search agrees
-
 returns-3 : tie.Need-returns-3 Inv-loop μ-loop
 returns-3 c = search agrees
+
+returns-4 : tie.Need-returns-4 Inv-loop μ-loop
+returns-4 c = search agrees
 
 pub same-name-spec : {M : Type 1} → statement M
 same-name-spec =
@@ -33,6 +36,8 @@ same-name-spec =
     Inv-loop
     μ-loop
     returns
+    (λ c κs. search needs)
+    returns-2
     (λ c. search needs)
     (λ c. search needs)
     (λ c. search needs)
@@ -40,5 +45,5 @@ same-name-spec =
     (λ c. search needs)
     (λ c. search needs)
     loop-again
-    returns-2
-    returns-3)
+    returns-3
+    returns-4)

@@ -9,10 +9,10 @@ use Rattle.listing.proofs.pages.put_page.Statement.{statement}
 use Rattle.listing.proofs.pages.put_page.Tie as tie
 
 abbrev Inv-loop : tie.InvT-loop
-Inv-loop structures tags others names tag-names scope start body n service limit buf₀ end used₀ bound₀ buf used bound = (4 ≤ used) × (used ≤ end) × (length buf ≡ length buf₀) × EachValid structures tags others names tag-names (λ t. Filled t scope (numbers n (drop 2 body)) start service limit end buf₀ used bound buf)
+Inv-loop structures tags others names tag-names scope start body n service limit buf₀ end used₀ bound₀ hint₀ buf used bound hint = (4 ≤ used) × (used ≤ end) × (length buf ≡ length buf₀) × EachValid structures tags others names tag-names (λ t. Filled t scope (numbers n (drop 2 body)) start service limit end buf₀ used bound buf)
 
 abbrev μ-loop : tie.MeasureT-loop
-μ-loop structures tags others names tag-names scope start body n service limit buf₀ end used₀ bound₀ buf used bound = end - used
+μ-loop structures tags others names tag-names scope start body n service limit buf₀ end used₀ bound₀ hint₀ buf used bound hint = end - used
 
 loop-holds : tie.Need-loop-holds Inv-loop μ-loop
 loop-holds c = (search needs, search needs, refl, λ m p z y v. filled-none _ _ _ _ _ _ _ _ (c .end-of .ensures))

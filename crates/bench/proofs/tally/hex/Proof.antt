@@ -1,0 +1,28 @@
+use Prim.Native.Nat.{_≤_, _-_}
+use lib.ListN.{length}
+use borrow.Author.Needs.{needs}
+use Rattle.bench.proofs.tally.hex.Statement.{statement}
+use Rattle.bench.proofs.tally.hex.Tie as tie
+
+abbrev Inv-loop : tie.InvT-loop
+Inv-loop s i₀ t3 i = i ≤ length s
+
+abbrev μ-loop : tie.MeasureT-loop
+μ-loop s i₀ t3 i = length s - i
+
+pub hex-spec : {M : Type 1} → statement M
+hex-spec =
+    tie.close
+    (tie.spec
+    Inv-loop
+    μ-loop
+    (λ c. search needs)
+    (λ c. search needs)
+    (λ c κs. search needs)
+    (λ c. search needs)
+    (λ c κs. search needs)
+    (λ c κs. search needs)
+    (λ c. search needs)
+    (λ c. search needs)
+    (λ c. search needs)
+    (λ c. search needs))

@@ -1,0 +1,26 @@
+use mathlib.Core.Path.{sym, _∙_}
+use Rattle.listing.proofs.Hinted.{hint-next}
+use borrow.Author.Needs.{needs}
+use Rattle.listing.proofs.pages.next_near.Statement.{statement}
+use Rattle.listing.proofs.pages.next_near.Tie as tie
+
+returns : tie.Need-returns
+returns c = hint-next _ _ _ _ _ (c .before .before .before .before .before .before .pre) (c .before .before .before .before .before .if1 .taken) (sym (c .before .before .is-at .ensures) ∙ c .before .if2 .taken)
+
+pub next-near-spec : {M : Type 1} → statement M
+next-near-spec =
+    tie.close
+    (tie.spec
+    (λ c. search needs)
+    (λ c. search needs)
+    (λ c. search needs)
+    (λ c. search needs)
+    (λ c. search needs)
+    (λ c. search needs)
+    (λ c κs. search needs)
+    (λ c. search needs)
+    (λ c. search needs)
+    (λ c. search needs)
+    returns
+    (λ c κs. search needs)
+    (λ c. search needs))

@@ -1,0 +1,225 @@
+-- A reply's data as it lies in the reply buffer, and the replies' data joined one after the other.
+-- Assumes nothing.
+use mathlib.Core.Path.{_≡_, refl, sym, ap, _∙_}
+use mathlib.Core.Logic.{_≢_}
+use mathlib.Core.List.{List, []}
+use Prim.Native.Nat.{ℕ, _+_, _-_, _≤_, _<_}
+use native.Mathlib.Omega.{arith}
+use lib.ListN.{length, take, drop, getD, length-append, length-take, length-drop, take-append-drop}
+use lib.Seq.{take-all, take-add, drop-drop, drop-append-seam, getD-take, length-take-le}
+use Rattle.laws.specs.Put.{put, laid}
+use Rattle.laws.proofs.Put.{put-then, take-laid, part-of-take, length-part}
+use Rattle.definition.specs.Reply.{Answer, reply, room}
+use Rattle.definition.specs.Tables.{Tables, Flags}
+use Rattle.definition.specs.Fragment.{space, sizeOf, statusOf, fragmentReply}
+use Rattle.definition.specs.Read.{selectedBytes}
+use Rattle.definition.specs.Answer.{answer}
+use Rattle.definition.proofs.Cut.{Cut, whole, part, cuts, size-positive, size-le, size-fits, rounded-le}
+use Rattle.definition.proofs.Replies.{proper-answer}
+use Rattle.definition.proofs.Selected.{granted-some}
+use Rattle.cip.specs.Writes.{Written}
+use Rattle.continued.specs.Point3.{readRequest, Readable}
+use Rattle.continued.proofs.Point3.{selected-few}
+use Rattle.pallet.specs.declared.joins.Turn.{Turn}
+use Rattle.pallet.specs.declared.joins.Turn.the-variants.{Last, More}
+use Rattle.services.specs.Answers.{Answers}
+use Rattle.pallet.specs.Whole.{chosen, firstStatus}
+use Rattle.pallet.specs.Parts.{chosenBytes, Sendable, Joinable, Brings}
+use Rattle.pallet.proofs.Sending.{read-keeps, readable, selected-answer}
+
+-- ---- what stands at the front of a buffer that a reply is laid into
+
+module _ (m : ℕ) (old r new : List ℕ) (lies : new ≡ laid m old r) where
+  front : take (length r) new ≡ r
+  front = rw lies (take-laid m old r)
+
+  pub laid-byte : (i : ℕ) → i < length r → getD new i 0 ≡ getD r i 0
+  laid-byte i h = sym (getD-take (length r) new i 0 h) ∙ ap (λ (l : List ℕ). getD l i 0) front
+
+  pub laid-rest : (a n : ℕ) → n ≡ length r → a ≤ n → take (n - a) (drop a new) ≡ drop a r
+  laid-rest a n e h =
+      sym (part-of-take a (n - a) (length r) new (omega arith)) ∙ ap (λ (l : List ℕ). take (n - a) (drop a l)) front
+      ∙ take-all (n - a) (drop a r) (omega (arith, length-drop a r))
+
+-- ---- a fragment of the bytes from an offset on
+
+module _ (header selected old new : List ℕ) (offset limit n : ℕ) (due : offset < length selected) (space-left : 5 + length header ≤ limit)
+    (length-is : n ≡ length (fragmentReply 0x52 header (drop offset selected) limit))
+    (lies : new ≡ laid (room limit) old (fragmentReply 0x52 header (drop offset selected) limit)) where
+  abbrev size : ℕ
+  size = sizeOf (length selected - offset) (space (length header) limit)
+
+  sent-length : length (take size (drop offset selected)) ≡ size
+  sent-length = length-part selected offset size (omega (arith, size-le (length selected - offset) (space (length header) limit)))
+
+  pub fragment-length : n ≡ 4 + length header + size
+  unfolding fragmentReply reply
+  fragment-length =
+      let e = rw (length-drop offset selected) at length-is in
+      omega (arith, e, length-append header (take size (drop offset selected)), sent-length)
+
+  pub fragment-data : (first : ℕ) → first ≡ 4 + length header → take (n - first) (drop first new) ≡ take size (drop offset selected)
+  unfolding fragmentReply reply
+  fragment-data first e =
+      laid-rest (room limit) old _ new lies first n length-is (omega (arith, fragment-length))
+      ∙ rw (e, ← drop-drop (length header) 4, length-drop, drop-append-seam) refl
+
+  pub fragment-status : getD new 2 0 ≡ statusOf (length selected - offset) (space (length header) limit)
+  unfolding fragmentReply reply
+  fragment-status = laid-byte (room limit) old _ new lies 2 (omega (arith, length-is, fragment-length)) ∙ rw (length-drop offset selected) refl
+
+  module _ (first end : ℕ) (out filled : List ℕ) (behind : first ≡ 4 + length header) (joins : filled ≡ put out offset (take (n - first) (drop first new)))
+      (ends : end ≡ offset + (n - first)) where
+    joined : filled ≡ put out offset (take size (drop offset selected))
+    joined = joins ∙ ap (put out offset) (fragment-data first behind)
+
+    ending : end ≡ offset + size
+    ending = omega (arith, fragment-length)
+
+    pub brings-last : getD new 2 0 ≡ 0 → Brings selected offset out (Last end) filled
+    brings-last z = go (cuts (length selected - offset) (space (length header) limit))
+      where
+        go : Cut (length selected - offset) (space (length header) limit) → Brings selected offset out (Last end) filled
+        go (whole h e k) = record {
+          is = (omega (arith, ending), joined ∙ ap (put out offset) (take-all size (drop offset selected) (omega (arith, length-drop offset selected))));
+        }
+        go (part h e k) = absurd (omega (arith, fragment-status))
+
+    pub brings-more : getD new 2 0 ≢ 0 → Brings selected offset out (More end) filled
+    brings-more z = go (cuts (length selected - offset) (space (length header) limit))
+      where
+        go : Cut (length selected - offset) (space (length header) limit) → Brings selected offset out (More end) filled
+        go (whole h e k) = absurd (z (fragment-status ∙ k))
+        go (part h e k) =
+            let some = size-positive (length selected - offset) (space (length header) limit) (omega arith) (omega arith) in
+            let few = rounded-le (space (length header) limit) in
+            let q : end - offset ≡ size = omega (arith, ending) in
+            record { is = (omega (arith, ending), omega (arith, ending), rw q joined) }
+
+-- ---- one reply to a read that selects something
+
+module _ {t : Tables} {f : Flags} {m path : List ℕ} {elements limit header buffer room-out : ℕ}
+    (a : Sendable t m path limit buffer) (j : Joinable t f m path elements limit header room-out) where
+  pub chosen-bytes : chosenBytes m (chosen t f path elements) ≡ selectedBytes (j .selection) m
+  chosen-bytes = ap (chosenBytes m) (j .chosen-is)
+
+  pub chosen-fits : length (chosenBytes m (chosen t f path elements)) ≤ room-out
+  chosen-fits = rw chosen-bytes (j .fits)
+
+  pub chosen-few : (got : ℕ) → got < length (chosenBytes m (chosen t f path elements)) → got ≤ 65536
+  chosen-few got due = omega (arith, rw chosen-bytes at due, selected-few t (j .selection) m (a .tables))
+
+  pub chosen-same : {memory : List ℕ} → memory ≡ m → chosenBytes memory (chosen t f path elements) ≡ chosenBytes m (chosen t f path elements)
+  chosen-same e = ap (λ (l : List ℕ). chosenBytes l (chosen t f path elements)) e
+
+  reads : elements < 65536 → Readable t f m path elements (j .selection)
+  reads count = readable t f m path elements (j .selection) (a .sendable) (a .tables) count (j .chosen-is)
+
+  pub chosen-some : elements < 65536 → 0 < length (chosenBytes m (chosen t f path elements))
+  chosen-some count = let r = reads count in rw chosen-bytes (granted-some t f (r .decoded) elements (j .selection) m (a .tables) (r .grants))
+
+module _ {t : Tables} {f : Flags} {m path : List ℕ} {elements limit header got buffer room-out n : ℕ} {old new left : List ℕ}
+    (a : Sendable t m path limit buffer) (j : Joinable t f m path elements limit header room-out) (count : elements < 65536)
+    (due : got < length (chosenBytes m (chosen t f path elements)))
+    (r : Answers limit (answer t f m (readRequest path elements got) limit) old n new left) where
+  abbrev selected : List ℕ
+  selected = selectedBytes (j .selection) m
+
+  less : got < length selected
+  less = rw (chosen-bytes a j) at due
+
+  reply-is : answer t f m (readRequest path elements got) limit .reply ≡ fragmentReply 0x52 (j .selection .header) (drop got selected) limit
+  reply-is =
+      ap (λ (x : Answer). x .reply)
+      (selected-answer t f m path elements (j .selection) got limit (reads a j count) less)
+
+  long : n ≡ length (fragmentReply 0x52 (j .selection .header) (drop got selected) limit)
+  long = r .length-is ∙ ap (λ (l : List ℕ). length l) reply-is
+
+  lies : new ≡ laid (room limit) old (fragmentReply 0x52 (j .selection .header) (drop got selected) limit)
+  lies = r .buffer-is ∙ ap (laid (room limit) old) reply-is
+
+  open-space : 5 + length (j .selection .header) ≤ limit
+  open-space = omega (arith, j .header-is, j .some-room)
+
+  part-length : n ≡ 4 + header + sizeOf (length selected - got) (space header limit)
+  part-length = rw (j .header-is) (fragment-length (j .selection .header) selected old new got limit n less open-space long lies)
+
+  pub part-keeps : left ≡ m
+  part-keeps = r .memory-is ∙ read-keeps t f m limit path elements got
+
+  -- the data stands in the reply buffer
+  pub part-inside : (4 + header ≤ n) × (n ≤ buffer) × (n ≤ 65535)
+  part-inside =
+      let fits : n ≤ limit = omega (arith, part-length, size-fits (length selected - got) (space header limit), j .some-room) in
+      (omega (arith, part-length), omega (arith, a .has-room), omega (arith, a .limit-fits))
+
+  pub part-fits : got + length (take (n - (4 + header)) (drop (4 + header) new)) ≤ room-out
+  part-fits =
+      omega (arith, length-take (n - (4 + header)) (drop (4 + header) new), part-length, size-le (length selected - got) (space header limit), less, j .fits)
+
+  module _ (first end : ℕ) (out filled : List ℕ) (behind : first ≡ 4 + header) (joins : filled ≡ put out got (take (n - first) (drop first new)))
+      (ends : end ≡ got + (n - first)) where
+    pub part-last : getD new 2 0 ≡ 0 → Brings (chosenBytes m (chosen t f path elements)) got out (Last end) filled
+    part-last z =
+        rw (chosen-bytes a j)
+        (brings-last (j .selection .header) selected old new got limit n less open-space long lies first end out filled
+        (omega (arith, behind, j .header-is)) joins ends z)
+
+    pub part-more : getD new 2 0 ≢ 0 → Brings (chosenBytes m (chosen t f path elements)) got out (More end) filled
+    part-more z =
+        rw (chosen-bytes a j)
+        (brings-more (j .selection .header) selected old new got limit n less open-space long lies first end out filled
+        (omega (arith, behind, j .header-is)) joins ends z)
+
+-- the status alone, of any read
+pub status-first : (t : Tables) (f : Flags) (m path : List ℕ) (elements limit n : ℕ) (old new left : List ℕ)
+    → Answers limit (answer t f m (readRequest path elements 0) limit) old n new left
+    → (getD new 2 0 ≡ firstStatus t f m path elements limit) × (left ≡ m)
+status-first t f m path elements limit n old new left r =
+    let long = proper-answer t f m (readRequest path elements 0) limit .headed .long in
+    (laid-byte (room limit) old _ new (r .buffer-is) 2 (omega (arith, long)), r .memory-is ∙ read-keeps t f m limit path elements 0)
+
+-- ---- all replies: what is joined before a turn are the first of the bytes
+
+pub joined-none : (out : List ℕ) → out ≡ put out 0 []
+unfolding put
+joined-none out = refl
+
+-- a turn begins with the memory as it was and buffers as long as they were
+pub turn-ready : {t : Tables} {f : Flags} {m path : List ℕ} {elements limit header buffer room-out : ℕ} (memory : List ℕ) (b o got : ℕ)
+    → Sendable t m path limit buffer → Joinable t f m path elements limit header room-out → memory ≡ m → b ≡ buffer → o ≡ room-out
+    → got < length (chosenBytes m (chosen t f path elements))
+    → Sendable t memory path limit b × Joinable t f memory path elements limit header o × (got < length (chosenBytes memory (chosen t f path elements)))
+turn-ready memory b o got a j same e k due = rw (same, e, k) (a, j, due)
+
+-- `selected` are the bytes by the memory at the start, `current` by the memory at a turn
+module _ {selected current out filled : List ℕ} {got : ℕ} {v : Turn} (start : List ℕ) (fits : length selected ≤ length start)
+    (same : current ≡ selected) (before : out ≡ put start 0 (take got selected)) (due : got < length selected)
+    (brings : Brings current got out v filled) where
+  brought : (w : Turn) → v ≡ w → Brings selected got out w filled
+  brought w e = rw (← same, ← e) brings
+
+  got-length : got ≡ 0 + length (take got selected)
+  got-length = omega (arith, length-take-le got selected (omega arith))
+
+  pub turn-more : (n : ℕ) → v ≡ More n → (got < n) × (n < length selected) × (filled ≡ put start 0 (take n selected))
+  turn-more n e =
+      let b = brought (More n) e .is in
+      let l = length-part selected got (n - got) (omega (arith, b .0, b .1)) in
+      let q : got + (n - got) ≡ n = omega (arith, b .0) in (
+        b .0,
+        b .1,
+        put-then _ _ _ 0 _ _ _ before (b .2) got-length (omega (arith, b .0, b .1))
+            ∙ ap (put start 0) (sym (take-add got (n - got) selected) ∙ ap (λ (k : ℕ). take k selected) q),
+      )
+
+  pub turn-last : (n : ℕ) → v ≡ Last n → Written 0 selected start n filled
+  turn-last n e =
+      let b = brought (Last n) e .is in
+      record {
+        length-is = b .0;
+        buffer-is =
+            put-then _ _ _ 0 _ _ _ before (b .1) got-length (omega (arith, length-drop got selected))
+            ∙ ap (put start 0) (take-append-drop got selected);
+      }

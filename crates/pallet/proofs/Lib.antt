@@ -1,0 +1,5 @@
+pub mod Sending
+pub mod Joining
+pub mod Sizing
+pub mod Deciding
+pub mod Examples

@@ -1,0 +1,11 @@
+use Rattle.pallet.proofs.Joining.{status-first}
+use borrow.Author.Needs.{needs}
+use Rattle.pallet.proofs.joins.first_status.Statement.{statement}
+use Rattle.pallet.proofs.joins.first_status.Tie as tie
+
+returns : tie.Need-returns
+returns c = status-first _ _ _ _ _ _ _ _ _ _ (c .before .before .before .before .before .send-read .ensures)
+
+pub first-status-spec : {M : Type 1} → statement M
+first-status-spec =
+    tie.close (tie.spec (λ c κs. search needs) (λ c. search needs) (λ c. search needs) (λ c. search needs) returns)

@@ -1,0 +1,9 @@
+use borrow.Author.Needs.{needs}
+use Rattle.records.proofs.nothing.Statement.{statement}
+use Rattle.records.proofs.nothing.Tie as tie
+
+returns : tie.Need-returns
+returns c = cc
+
+pub nothing-spec : {M : Type 1} → statement M
+nothing-spec = tie.close (tie.spec (λ c κs. search needs) returns)

@@ -1,0 +1,169 @@
+// Tags as records with named fields: how a program keeps and lends them, beside the flat rows that the services take.
+// The borrow checker covers no function over a slice of structs, so the four over `&[Tag]` and `&mut [Tag]` stay small and
+// are proved by a walk of their code, with a promise on the records and one on the rows that they mean. A function that
+// takes a `Tag` by value is covered.
+use model::lookup::Found;
+ghost use mathlib.Core.Path.{_≡_};
+ghost use mathlib.Core.List.{[]};
+ghost use mathlib.Core.Option.{none, some};
+ghost use Prim.Native.Nat.{_<_, min};
+ghost use lib.ListN.{length, set};
+ghost use Rattle.definition.specs.Lookup.{tagIn, idIn};
+ghost use Rattle.records.specs.Records.{rowOf, tagOf, tagAt, rowAt, rowsOf, lookupOf, Packs};
+
+/// A tag: its scope (0 is the controller, k + 1 program k), its name's place in the store of tag names, its instance ID,
+/// its type word, its array lengths (nonzero first), its elements, its access, its alias mark and its place in tag memory.
+pub struct Tag {
+    pub scope: u32,
+    pub name_start: u32,
+    pub name_length: u32,
+    pub id: u32,
+    pub ty: u32,
+    pub lengths: [u32; 3],
+    pub elements: u32,
+    pub access: u32,
+    pub alias: u32,
+    pub offset: u32,
+}
+
+/// What a lookup found: the row's place in its table, and its record; where there is none, a record of zeros.
+/// (An enum that holds the record would hold its array of lengths, which the borrow checker does not cover.)
+pub struct Lookup {
+    pub at: Found,
+    pub tag: Tag,
+}
+
+/// A record as a flat row.
+pub fn row_of(tag: Tag) -> [u32; 12]
+    ensures { λ r. ⌜ r ≡ rowOf tag ⌝ }
+{
+    let lengths = tag.lengths;
+    [
+        tag.scope,
+        tag.name_start,
+        tag.name_length,
+        tag.id,
+        tag.ty,
+        lengths[0],
+        lengths[1],
+        lengths[2],
+        tag.elements,
+        tag.access,
+        tag.alias,
+        tag.offset,
+    ]
+}
+
+/// A flat row as a record.
+pub fn tag_of(row: [u32; 12]) -> Tag
+    ensures { λ r. ⌜ r ≡ tagOf row ⌝ }
+{
+    let lengths = [row[5], row[6], row[7]];
+    Tag {
+        scope: row[0],
+        name_start: row[1],
+        name_length: row[2],
+        id: row[3],
+        ty: row[4],
+        lengths: lengths,
+        elements: row[8],
+        access: row[9],
+        alias: row[10],
+        offset: row[11],
+    }
+}
+
+/// How many records there are.
+pub fn tag_count(tags: &[Tag]) -> usize
+    ensures { λ r. ⌜ (r ≡ length (now (tags .entry))) × (r ≡ length (rowsOf (now (tags .entry)))) ⌝ }
+{
+    tags.len()
+}
+
+/// One record.
+pub fn tag_at(tags: &[Tag], i: usize) -> Tag
+    requires { ⌜ i < length (now tags) ⌝ }
+    ensures { λ r. ⌜ (r ≡ tagAt (now (tags .entry)) i) × (rowOf r ≡ rowAt (rowsOf (now (tags .entry))) i) ⌝ }
+{
+    tags[i]
+}
+
+/// One record is stored.
+pub fn set_tag(tags: &mut [Tag], i: usize, tag: Tag)
+    requires { ⌜ i < length (now tags) ⌝ }
+    ensures { λ _. ⌜ (now (tags .exit) ≡ set (now (tags .entry)) i tag) × (rowsOf (now (tags .exit)) ≡ set (rowsOf (now (tags .entry))) i (rowOf tag)) ⌝ }
+{
+    tags[i] = tag;
+}
+
+/// A record is stored into a table of flat rows.
+pub fn pack_one(rows: &mut [[u32; 12]], i: usize, tag: Tag)
+    requires { ⌜ i < length (now rows) ⌝ }
+    ensures { λ _. ⌜ now (rows .exit) ≡ set (now (rows .entry)) i (rowOf tag) ⌝ }
+{
+    rows[i] = row_of(tag);
+}
+
+/// The records as the rows that the services take: as many as both slices have room for; returns how many. The rows after
+/// those stay as they were. Call it before `logix::entry::message`, and hand that the first rows, as many as it says.
+pub fn pack(tags: &[Tag], rows: &mut [[u32; 12]]) -> usize
+    ensures { λ r. ⌜ Packs (now (tags .entry)) (now (rows .entry)) r (now (rows .exit)) ⌝ }
+{
+    let n = fewer(tags.len(), rows.len());
+    let mut i = 0;
+    while i < n {
+        rows[i] = row_of(tags[i]);
+        i += 1;
+    }
+    n
+}
+
+fn fewer(a: usize, b: usize) -> usize
+    ensures { λ r. ⌜ r ≡ min a b ⌝ }
+{
+    if a < b {
+        return a;
+    }
+    b
+}
+
+fn nothing() -> Lookup
+    ensures { λ r. ⌜ r ≡ lookupOf [] none ⌝ }
+{
+    let tag = tag_of([0; 12]);
+    Lookup {
+        at: Found::Nothing,
+        tag: tag,
+    }
+}
+
+fn lookup_at(rows: &[[u32; 12]], i: usize) -> Lookup
+    requires { ⌜ i < length (now rows) ⌝ }
+    ensures { λ r. ⌜ r ≡ lookupOf (now (rows .entry)) (some i) ⌝ }
+{
+    let tag = tag_of(rows[i]);
+    Lookup {
+        at: Found::At(i),
+        tag: tag,
+    }
+}
+
+/// The first tag of that scope and name.
+pub fn tag_named(rows: &[[u32; 12]], tag_names: &[u8], scope: u32, name: &[u8]) -> Lookup
+    ensures { λ r. ⌜ r ≡ lookupOf (now (rows .entry)) (tagIn (now (rows .entry)) (now («tag_names» .entry)) scope (now (name .entry))) ⌝ }
+{
+    let Found::At(i) = model::lookup::find_tag(rows, tag_names, scope, name) else {
+        return nothing();
+    };
+    lookup_at(rows, i)
+}
+
+/// The first tag of that scope and instance ID.
+pub fn tag_with_id(rows: &[[u32; 12]], scope: u32, id: u32) -> Lookup
+    ensures { λ r. ⌜ r ≡ lookupOf (now (rows .entry)) (idIn (now (rows .entry)) scope id) ⌝ }
+{
+    let Found::At(i) = model::lookup::find_tag_id(rows, scope, id) else {
+        return nothing();
+    };
+    lookup_at(rows, i)
+}

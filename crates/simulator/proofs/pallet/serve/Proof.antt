@@ -1,0 +1,19 @@
+use borrow.Author.Needs.{needs}
+use Rattle.simulator.proofs.pallet.serve.Statement.{statement}
+use Rattle.simulator.proofs.pallet.serve.Tie as tie
+
+pub serve-spec : {M : Type 1} → statement M
+serve-spec =
+    tie.close
+    (tie.spec
+    (λ c. search needs)
+    (λ c. search needs)
+    (λ c. search needs)
+    (λ c. search needs)
+    (λ c. search needs)
+    (λ c. search needs)
+    (λ c. search needs)
+    (λ c. search needs)
+    (λ c. search needs)
+    (λ c κs. search needs)
+    (λ c. search needs))

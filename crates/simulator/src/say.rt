@@ -1,0 +1,19 @@
+// What the program writes to standard output.
+use libc::STDOUT_FILENO;
+
+pub fn text(s: &[u8]) {
+    io::write_all(STDOUT_FILENO, s);
+}
+
+pub fn number(n: u64) {
+    io::print_decimal(STDOUT_FILENO, n);
+}
+
+/// A line that says what is wrong with a line of the input.
+pub fn about_line(line: u64, what: &[u8]) {
+    text(b"line ");
+    number(line);
+    text(b": ");
+    text(what);
+    text(b"\n");
+}

@@ -1,0 +1,290 @@
+// A session: the tables are judged once, then each line of standard input is answered.
+ghost use mathlib.Core.Path.{_≡_};
+ghost use mathlib.Core.Bool.{true};
+ghost use Prim.Native.Nat.{_≤_};
+ghost use lib.ListN.{length};
+ghost use Rattle.definition.specs.Valid.{valid};
+ghost use Rattle.model.specs.Tables.{tablesOf};
+use crate::hex;
+use crate::hex::Fault;
+use crate::hex::Line;
+use crate::lines;
+use crate::lines::Place;
+use crate::reply;
+use crate::say;
+use model::Flags;
+
+/// Answers a request and shows the reply.
+fn respond(
+    structures: &[[u32; 10]],
+    members: &[[u32; 9]],
+    programs: &[[u32; 2]],
+    tags: &[[u32; 12]],
+    others: &[[u32; 5]],
+    names: &[u8],
+    tag_names: &[u8],
+    templates: &[u8],
+    flags: Flags,
+    memory: &mut [u8],
+    request: &[u8],
+    limit: usize,
+    buf: &mut [u8],
+)
+    requires { ⌜ (length (now request) ≤ 65535) × (limit ≤ 65535) × (65535 ≤ length (now buf)) × (valid (tablesOf (now structures) (now members) (now programs) (now tags) (now others) (now names) (now «tag_names») (now templates)) (length (now memory)) ≡ true) ⌝ }
+{
+    let n = logix::entry::answer(
+        structures,
+        members,
+        programs,
+        tags,
+        others,
+        names,
+        tag_names,
+        templates,
+        flags,
+        memory,
+        request,
+        limit,
+        buf,
+    );
+    reply::show(&buf[..n]);
+}
+
+/// Says what keeps a line from being a request.
+fn complain(line: u64, f: Fault) {
+    match f {
+        Fault::Digit => say::about_line(line, b"not a hex digit"),
+        Fault::Odd => say::about_line(line, b"an odd number of hex digits"),
+        Fault::NoNumber => say::about_line(line, b"the limit is not a number"),
+        Fault::OverLimit => say::about_line(line, b"the limit is over 65535"),
+        Fault::TooLong => say::about_line(line, b"the request is longer than 65535 bytes"),
+    }
+}
+
+/// Answers a line, unless it is the rest of one that was too long.
+fn serve_line(
+    structures: &[[u32; 10]],
+    members: &[[u32; 9]],
+    programs: &[[u32; 2]],
+    tags: &[[u32; 12]],
+    others: &[[u32; 5]],
+    names: &[u8],
+    tag_names: &[u8],
+    templates: &[u8],
+    flags: Flags,
+    memory: &mut [u8],
+    line: &[u8],
+    number: u64,
+    skipping: bool,
+    request: &mut [u8],
+    buf: &mut [u8],
+)
+    requires { ⌜ (length (now request) ≤ 65535) × (65535 ≤ length (now buf)) × (valid (tablesOf (now structures) (now members) (now programs) (now tags) (now others) (now names) (now «tag_names») (now templates)) (length (now memory)) ≡ true) ⌝ }
+{
+    if skipping {
+        return;
+    }
+    match hex::parse(line, request) {
+        Line::Empty => {}
+        Line::Wrong(f) => complain(number, f),
+        Line::Request(limit, n) => respond(
+            structures,
+            members,
+            programs,
+            tags,
+            others,
+            names,
+            tag_names,
+            templates,
+            flags,
+            memory,
+            &request[..n],
+            limit,
+            buf,
+        ),
+    }
+}
+
+/// Answers each whole line of the input; what is left starts at the place's position.
+fn serve_lines(
+    structures: &[[u32; 10]],
+    members: &[[u32; 9]],
+    programs: &[[u32; 2]],
+    tags: &[[u32; 12]],
+    others: &[[u32; 5]],
+    names: &[u8],
+    tag_names: &[u8],
+    templates: &[u8],
+    flags: Flags,
+    memory: &mut [u8],
+    input: &[u8],
+    request: &mut [u8],
+    buf: &mut [u8],
+    place: Place,
+) -> Place
+    requires { ⌜ (length (now request) ≤ 65535) × (65535 ≤ length (now buf)) × (length (now input) ≤ 262144) × (valid (tablesOf (now structures) (now members) (now programs) (now tags) (now others) (now names) (now «tag_names») (now templates)) (length (now memory)) ≡ true) ⌝ }
+    ensures { λ r. ⌜ r .at ≤ length (now (input .entry)) ⌝ }
+{
+    let mut start = 0;
+    let mut number = place.line;
+    let mut skipping = place.skipping;
+    let mut end = lines::find(input, 0, b'\n');
+    while end < input.len() {
+        serve_line(
+            structures,
+            members,
+            programs,
+            tags,
+            others,
+            names,
+            tag_names,
+            templates,
+            flags,
+            memory,
+            &input[start..end],
+            number,
+            skipping,
+            request,
+            buf,
+        );
+        skipping = false;
+        number = std::num::wrapping_add_u64(number, 1);
+        start = end + 1;
+        end = lines::find(input, start, b'\n');
+    }
+    Place {
+        at: start,
+        line: number,
+        skipping: skipping,
+        open: true,
+    }
+}
+
+/// Reads once more and answers the lines that are whole.
+fn turn(
+    structures: &[[u32; 10]],
+    members: &[[u32; 9]],
+    programs: &[[u32; 2]],
+    tags: &[[u32; 12]],
+    others: &[[u32; 5]],
+    names: &[u8],
+    tag_names: &[u8],
+    templates: &[u8],
+    flags: Flags,
+    memory: &mut [u8],
+    input: &mut [u8],
+    request: &mut [u8],
+    buf: &mut [u8],
+    place: Place,
+) -> Place
+    requires { ⌜ (length (now request) ≤ 65535) × (65535 ≤ length (now buf)) × (length (now input) ≤ 262144) × (place .at ≤ length (now input)) × (valid (tablesOf (now structures) (now members) (now programs) (now tags) (now others) (now names) (now «tag_names») (now templates)) (length (now memory)) ≡ true) ⌝ }
+    ensures { λ r. ⌜ r .at ≤ length (now (input .entry)) ⌝ }
+{
+    let at = place.at;
+    if at >= input.len() {
+        return lines::overflow(place);
+    }
+    let end = lines::read_more(input, at);
+    if end == 0 {
+        return lines::closed();
+    }
+    let next = serve_lines(
+        structures,
+        members,
+        programs,
+        tags,
+        others,
+        names,
+        tag_names,
+        templates,
+        flags,
+        memory,
+        &input[..end],
+        request,
+        buf,
+        place,
+    );
+    lines::shift(input, end, next)
+}
+
+/// Answers standard input to its end. No run uses up the count of turns.
+fn serve(
+    structures: &[[u32; 10]],
+    members: &[[u32; 9]],
+    programs: &[[u32; 2]],
+    tags: &[[u32; 12]],
+    others: &[[u32; 5]],
+    names: &[u8],
+    tag_names: &[u8],
+    templates: &[u8],
+    flags: Flags,
+    memory: &mut [u8],
+)
+    requires { ⌜ (valid (tablesOf (now structures) (now members) (now programs) (now tags) (now others) (now names) (now «tag_names») (now templates)) (length (now memory)) ≡ true) ⌝ }
+{
+    let mut input = [0u8; 262144];
+    let mut request = [0u8; 65535];
+    let mut buf = [0u8; 65535];
+    let mut place = lines::first();
+    let mut turns = u64::MAX;
+    while turns > 0 && place.open {
+        place = turn(
+            structures,
+            members,
+            programs,
+            tags,
+            others,
+            names,
+            tag_names,
+            templates,
+            flags,
+            memory,
+            &mut input,
+            &mut request,
+            &mut buf,
+            place,
+        );
+        turns -= 1;
+    }
+}
+
+/// Judges the tables for this tag memory, then serves them.
+pub fn open(
+    structures: &[[u32; 10]],
+    members: &[[u32; 9]],
+    programs: &[[u32; 2]],
+    tags: &[[u32; 12]],
+    others: &[[u32; 5]],
+    names: &[u8],
+    tag_names: &[u8],
+    templates: &[u8],
+    flags: Flags,
+    memory: &mut [u8],
+) {
+    if !tables::valid(
+        structures,
+        members,
+        programs,
+        tags,
+        others,
+        names,
+        tag_names,
+        templates,
+        memory,
+    ) {
+        say::text(b"the tables are not valid: they break one of T1 to T6\n");
+        return;
+    }
+    serve(
+        structures,
+        members,
+        programs,
+        tags,
+        others,
+        names,
+        tag_names,
+        templates,
+        flags,
+        memory,
+    );
+}
