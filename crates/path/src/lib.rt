@@ -553,19 +553,32 @@ fn lower(b: u8) -> u8
 fn same_byte(x: u8, y: u8) -> bool
     ensures { λ r. ⌜ r ≡ sameByte x y ⌝ }
 {
+    if x == y {
+        return true;
+    }
     lower(x) == lower(y)
 }
 
-/// Whether names of one length differ in their last byte: a plant's names often begin alike, so most comparisons end here.
-fn ends_unlike(a: &[u8], b: &[u8]) -> bool
+/// Whether names of one length differ at a position.
+fn unlike_at(a: &[u8], b: &[u8], i: usize) -> bool
+    requires { ⌜ (length (now a) ≡ length (now b)) × (i < length (now a)) ⌝ }
+    ensures { λ r. ⌜ (r ≡ true → false ≡ sameName (now (a .entry)) (now (b .entry))) ⌝ }
+{
+    !same_byte(a[i], b[i])
+}
+
+/// Whether names of one length differ in the middle or at the end: a plant's names often begin alike and count there, so most comparisons end here.
+fn plainly_unlike(a: &[u8], b: &[u8]) -> bool
     requires { ⌜ length (now a) ≡ length (now b) ⌝ }
     ensures { λ r. ⌜ (r ≡ true → false ≡ sameName (now (a .entry)) (now (b .entry))) ⌝ }
 {
     if a.len() == 0 {
         return false;
     }
-    let last = a.len() - 1;
-    !same_byte(a[last], b[last])
+    if unlike_at(a, b, a.len() / 2) {
+        return true;
+    }
+    unlike_at(a, b, a.len() - 1)
 }
 
 /// Whether two names agree, ignoring the case of A to Z.
@@ -575,7 +588,7 @@ pub fn same_name(a: &[u8], b: &[u8]) -> bool
     if a.len() != b.len() {
         return false;
     }
-    if ends_unlike(a, b) {
+    if plainly_unlike(a, b) {
         return false;
     }
     let mut i = 0;

@@ -18,7 +18,7 @@ returns : tie.Need-returns Inv-loop μ-loop
 returns c = search agrees
 
 returns-2 : tie.Need-returns-2 Inv-loop μ-loop
-returns-2 c = c .before .ends-unlike .ensures (c .if2 .taken)
+returns-2 c = c .before .plainly-unlike .ensures (c .if2 .taken)
 
 loop-again : tie.Need-loop-again Inv-loop μ-loop
 loop-again c = (search needs, search needs, search agrees)
