@@ -3,3 +3,7 @@ pub mod Joining
 pub mod Sizing
 pub mod Deciding
 pub mod Examples
+pub mod Asking
+pub mod Walking
+pub mod Paging
+pub mod Outcomes

@@ -1,2 +1,4 @@
 pub mod Whole
 pub mod Parts
+pub mod Lists
+pub mod Turns

@@ -9,7 +9,7 @@ ghost use Rattle.pallet.specs.Whole.{chosen, firstStatus};
 ghost use Rattle.pallet.specs.Parts.{chosenBytes, Sendable, Joinable, Brings};
 
 /// How many bytes are received after a reply, and whether more are due.
-enum Turn {
+pub enum Turn {
     Last(usize),
     More(usize),
 }

@@ -1,7 +1,11 @@
-// The whole read: a continued read done by the program itself, until all of what is selected is joined.
+// The whole read: a continued read done by the program itself, until all of what is selected is joined. The whole list of a scope's
+// symbols is done alike in `lists`.
 pub mod joins;
+pub mod lists;
+pub mod pages;
 pub mod requests;
 pub mod sizes;
+pub mod walks;
 
 use model::Flags;
 use sizes::Size;
@@ -11,19 +15,20 @@ ghost use Rattle.model.specs.Tables.{tablesOf, flagsOf};
 ghost use Rattle.pallet.specs.Whole.{chosen, firstStatus, received, wholeOf, wholeRead};
 ghost use Rattle.pallet.specs.Parts.{Sendable};
 
-/// What a whole read comes to.
+/// What a whole read or a whole list comes to.
 pub enum Whole {
-    /// So many bytes, all that are selected.
+    /// So many bytes: all that are selected, or the entries of all symbols.
     Joined(usize),
-    /// The lent buffer is shorter than the bytes selected: nothing was joined.
+    /// The lent buffer is shorter than these bytes: nothing was joined.
     TooShort(usize),
-    /// The limit leaves no room for a byte behind the header: nothing was joined.
+    /// The limit leaves no room behind the header for a byte, or for the longest entry: nothing was joined.
     TooNarrow,
-    /// The controller turns the read away with this general status: nothing was joined.
+    /// The controller turns the first request away with this general status: nothing was joined.
     Turned(u8),
     /// An entry refusal by its number (2: limit, 3: reply buffer, 4: tables).
     Refused(u32),
-    /// The path has an odd number of bytes, or more than 255 words.
+    /// A path of an odd number of bytes or of more than 255 words; a program's name of more than 255 bytes, or a list of attributes of
+    /// more than 1,024.
     Unsendable,
 }
 

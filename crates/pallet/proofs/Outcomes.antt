@@ -1,0 +1,206 @@
+-- What a whole list comes to, by the scope, the list of attributes and what was measured before anything is asked for.
+-- Assumes nothing.
+use mathlib.Core.Path.{_≡_, refl, sym, ap, _∙_}
+use mathlib.Core.Bool.{true, false}
+use mathlib.Core.List.{List}
+use mathlib.Core.Option.{Option, none, some}
+use Prim.Native.Nat.{ℕ, suc, _+_, _*_, _≤_, _<_}
+use native.Mathlib.Omega.{arith}
+use lib.Dec.{leb}
+use lib.ListN.{length, drop}
+use borrow.Author.Tests.{leb-true, lt-ltb, le-ltb, eq-eqb, ne-eqb}
+use Rattle.laws.specs.Tests.{every}
+use Rattle.laws.proofs.Chain.{by-test, clash}
+use Rattle.laws.proofs.Tests.{among, both-none}
+use Rattle.definition.specs.Bytes.{numbers, counted}
+use Rattle.definition.specs.Reply.{room}
+use Rattle.definition.specs.Tables.{Tables, Flags, Row}
+use Rattle.definition.specs.Lookup.{programOf}
+use Rattle.definition.specs.Valid.{valid, t1}
+use Rattle.definition.specs.Page.{Entry, bytesOf}
+use Rattle.definition.specs.Symbols.{isListed, due}
+use Rattle.cip.specs.Writes.{Written}
+use Rattle.model.specs.Rows.{foundOf}
+use Rattle.model.specs.Tables.{tablesOf}
+use Rattle.model.specs.declared.lookup.Found.{Found}
+use Rattle.model.specs.declared.lookup.Found.the-variants.{At, Nothing}
+use Rattle.listing.specs.Objects.{programBy, countIn}
+use Rattle.listing.specs.declared.attributes.Count.{Count}
+use Rattle.listing.specs.declared.attributes.Count.the-variants.{Of, Missing}
+use Rattle.listing.proofs.Lists.{counted-none, counted-some, count-fits}
+use Rattle.pallet.specs.declared.Whole.the-variants.{Joined, TooShort, TooNarrow, Turned}
+use Rattle.pallet.specs.declared.lists.Scope.{Scope}
+use Rattle.pallet.specs.declared.lists.Scope.the-variants.{In, Unknown}
+use Rattle.pallet.specs.declared.walks.Measure.{Measure}
+use Rattle.pallet.specs.declared.walks.Measure.the-variants.{Total, Narrow}
+use Rattle.pallet.specs.Whole.{Received, received}
+use Rattle.pallet.specs.Lists.{scopeNamed, scopeOf, entriesIn, entriesOf, firstPage, longest, wholeOfList, wholeList}
+use Rattle.pallet.specs.Turns.{inScope, scopeBy, acceptedBy, acceptedIn, Askable, Granted, Measured}
+
+-- ---- the scope
+
+module _ (programs : List Row) (names program : List ℕ) where
+  pub scope-controller : length program ≡ 0 → some 0 ≡ scopeBy programs names program
+  unfolding scopeBy
+  scope-controller e = rw (eq-eqb (length program) 0 e)
+
+  module _ (some-name : length program ≡ 0 → ⊥) (v : Found) (v-is : v ≡ foundOf (programBy programs names program)) where
+    named-by : scopeNamed (programBy programs names program) ≡ scopeBy programs names program
+    unfolding scopeBy
+    named-by = rw (ne-eqb (length program) 0 some-name)
+
+    scope-found : (o : Option ℕ) (k : ℕ) → v ≡ foundOf o → v ≡ At k → some (suc k) ≡ scopeNamed o
+    scope-found none k e q = clash (cc (e, q))
+    scope-found (some j) k e q = let h : j ≡ k = cc (e, q) in rw h
+
+    scope-lost : (o : Option ℕ) → v ≡ foundOf o → v ≡ Nothing → none ≡ scopeNamed o
+    scope-lost none e q = refl
+    scope-lost (some j) e q = clash (cc (e, q))
+
+    pub scope-known : (k scope : ℕ) → scope ≡ k + 1 → v ≡ At k → some scope ≡ scopeBy programs names program
+    scope-known k scope s q = let n : scope ≡ suc k = omega arith in rw n (scope-found (programBy programs names program) k v-is q ∙ named-by)
+
+    pub scope-unknown : v ≡ Nothing → none ≡ scopeBy programs names program
+    scope-unknown q = scope-lost (programBy programs names program) v-is q ∙ named-by
+
+-- ---- the list of attributes
+
+module _ (attributes : List ℕ) (c : Count) (c-is : c ≡ countIn attributes) where
+  pub accepted-missing : c ≡ Missing → Missing ≡ acceptedIn attributes
+  unfolding acceptedIn
+  accepted-missing e = ap (acceptedBy attributes) (sym e ∙ c-is)
+
+  module _ (n k : ℕ) (e : c ≡ Of n) (same : k ≡ n) where
+    pub accepted-fits : 2 + 2 * k ≤ length attributes
+    accepted-fits = omega (arith, same, count-fits attributes n (sym e ∙ c-is))
+
+    accepted-by : acceptedBy attributes (Of n) ≡ acceptedIn attributes
+    unfolding acceptedIn
+    accepted-by = ap (acceptedBy attributes) (sym e ∙ c-is)
+
+    pub accepted-all : every isListed (numbers k (drop 2 attributes)) ≡ true → Of n ≡ acceptedIn attributes
+    accepted-all b = rw (rw same at b) at accepted-by
+
+    pub accepted-unknown : every isListed (numbers k (drop 2 attributes)) ≡ false → Missing ≡ acceptedIn attributes
+    accepted-unknown b = rw (rw same at b) at accepted-by
+
+pub record Accepted (attributes : List ℕ) (n : ℕ) : Type 0 where
+  pub list-fits : 2 + 2 * n ≤ length attributes
+  pub numbers-are : counted attributes ≡ some (numbers n (drop 2 attributes))
+  pub accepted : every isListed (numbers n (drop 2 attributes)) ≡ true
+
+module _ (attributes : List ℕ) where
+  accepted-of : (n : ℕ) (c : Count) → c ≡ countIn attributes → Of n ≡ acceptedBy attributes c → Accepted attributes n
+  accepted-of n Missing e q = clash (cc q)
+  accepted-of n (Of k) e q =
+      by-test (every isListed (numbers k (drop 2 attributes)))
+      (λ b. let h : n ≡ k = cc (rw b at q) in
+      rw h (record { list-fits = count-fits attributes k e; numbers-are = counted-some attributes k e; accepted = b }))
+      (λ b. clash (cc (rw b at q)))
+
+  pub accepted-list : (n : ℕ) → Of n ≡ acceptedIn attributes → Accepted attributes n
+  unfolding acceptedIn
+  accepted-list n q = accepted-of n (countIn attributes) refl q
+
+  module _ (t : Tables) (scope : Option ℕ) where
+    none-in : entriesIn t scope none ≡ none
+    none-in = go scope
+      where
+        go : (s : Option ℕ) → entriesIn t s none ≡ none
+        go none = refl
+        go (some k) = refl
+
+    none-of : (ns : List ℕ) → every isListed ns ≡ false → entriesIn t scope (some ns) ≡ none
+    none-of ns e = go scope
+      where
+        go : (s : Option ℕ) → entriesIn t s (some ns) ≡ none
+        go none = refl
+        go (some k) = rw e
+
+    refused-of : (c : Count) → c ≡ countIn attributes → Missing ≡ acceptedBy attributes c → entriesIn t scope (counted attributes) ≡ none
+    refused-of Missing e q = rw (counted-none attributes e) none-in
+    refused-of (Of k) e q =
+        by-test (every isListed (numbers k (drop 2 attributes)))
+        (λ b. clash (cc (rw b at q)))
+        (λ b. rw (counted-some attributes k e) (none-of _ b))
+
+    refused-list : Missing ≡ acceptedIn attributes → entriesIn t scope (counted attributes) ≡ none
+    unfolding acceptedIn
+    refused-list q = refused-of (countIn attributes) refl q
+
+-- ---- of a table set
+
+module _ (structures members programs tags others : List Row) (names tagNames templates program attributes : List ℕ) where
+  abbrev set : Tables
+  set = tablesOf structures members programs tags others names tagNames templates
+
+  scope-same : scopeOf set program ≡ scopeBy programs names program
+  unfolding scopeOf scopeBy programOf programBy
+  scope-same = refl
+
+  module _ (s : Scope) (s-is : inScope s ≡ scopeBy programs names program) where
+    pub entries-nowhere : s ≡ Unknown → entriesOf set program attributes ≡ none
+    unfolding entriesOf
+    entries-nowhere q = let e : scopeOf set program ≡ none = scope-same ∙ sym s-is ∙ ap inScope q in rw e
+
+    pub entries-granted : (scope n count : ℕ) → s ≡ In scope → Of count ≡ acceptedIn attributes → n ≡ count → Granted set program attributes scope n
+    entries-granted scope n count q a e =
+        let l = accepted-list attributes count a in
+        rw e (record { scope-is = scope-same ∙ sym s-is ∙ ap inScope q; list-fits = l .list-fits; numbers-are = l .numbers-are; accepted = l .accepted })
+
+  pub entries-refused : Missing ≡ acceptedIn attributes → entriesOf set program attributes ≡ none
+  unfolding entriesOf
+  entries-refused a = refused-list attributes set (scopeOf set program) a
+
+pub entries-are : (t : Tables) (program attributes : List ℕ) (scope n : ℕ) → Granted t program attributes scope n
+    → entriesOf t program attributes ≡ some (due t scope (numbers n (drop 2 attributes)) 0)
+unfolding entriesOf
+entries-are t program attributes scope n g = rw (g .scope-is, g .numbers-are, g .accepted)
+
+pub few-scopes : (t : Tables) (memory : ℕ) → valid t memory ≡ true → length (t .programs) ≤ 65535
+unfolding valid t1
+few-scopes t memory v = omega (arith, leb-true (length (t .programs)) 16 (among (leb (length (t .programs)) 16) _ v (λ e. simp (e, both-none))))
+
+-- ---- what it comes to
+
+module _ (o : Option (List Entry)) (status limit : ℕ) (out : List ℕ) where
+  pub list-turned : (x : ℕ) → o ≡ none → x ≡ status → received (Turned x) out ≡ wholeOfList o status limit out
+  unfolding wholeOfList
+  list-turned x e k = rw (e, k) refl
+
+  module _ (entries : List Entry) (is : o ≡ some entries) where
+    narrow-by : limit < 4 + longest entries → received TooNarrow out ≡ wholeOfList o status limit out
+    unfolding wholeOfList
+    narrow-by h = rw (is, lt-ltb limit (4 + longest entries) h) refl
+
+    pub list-tiny : limit < 4 → received TooNarrow out ≡ wholeOfList o status limit out
+    list-tiny h = narrow-by (omega arith)
+
+    module _ (v : Measure) (measured : Measured entries limit v) where
+      pub list-narrow : v ≡ Narrow → received TooNarrow out ≡ wholeOfList o status limit out
+      list-narrow q = narrow-by (rw q at measured)
+
+      module _ (total : ℕ) (q : v ≡ Total total) where
+        pub list-total : (total ≡ length (bytesOf entries)) × (4 + longest entries ≤ limit)
+        list-total = rw q at measured
+
+        pub list-short : length out < total → received (TooShort total) out ≡ wholeOfList o status limit out
+        unfolding wholeOfList
+        list-short h =
+            let a = list-total in
+            rw (is, le-ltb limit (4 + longest entries) (a .1), ← a .0, lt-ltb (length out) total h) refl
+
+        pub list-joined : (r : ℕ) (filled : List ℕ) → total ≤ length out → Written 0 (bytesOf entries) out r filled
+            → received (Joined r) filled ≡ wholeOfList o status limit out
+        unfolding wholeOfList
+        list-joined r filled h w =
+            let a = list-total in
+            rw (is, w .buffer-is, w .length-is, le-ltb limit (4 + longest entries) (a .1), le-ltb (length out) (length (bytesOf entries)) (omega (arith, a .0))) refl
+
+-- an askable list is not turned away before anything is asked for
+module _ {t : Tables} (f : Flags) {memory program attributes : List ℕ} {limit buffer : ℕ} (out : List ℕ) (v : Received)
+    (a : Askable t memory program attributes limit buffer) where
+  pub list-entered : v ≡ wholeOfList (entriesOf t program attributes) (firstPage t f memory program attributes limit) limit out
+      → v ≡ wholeList t f memory program attributes limit buffer out
+  unfolding wholeList
+  list-entered e = rw (a .askable, le-ltb 65535 limit (a .limit-fits), le-ltb buffer (room limit) (a .has-room), a .tables) e

@@ -1,0 +1,37 @@
+use Rattle.listing.proofs.Starts.{program-inside}
+use mathlib.Core.Path.{refl}
+use Rattle.pallet.proofs.Outcomes.{scope-controller, scope-known, scope-unknown}
+use borrow.Author.Needs.{needs}
+use Rattle.pallet.proofs.lists.scope_of.Statement.{statement}
+use Rattle.pallet.proofs.lists.scope_of.Tie as tie
+
+returns : tie.Need-returns
+returns c = scope-controller _ _ _ (c .if1 .taken)
+
+cast-t8 : tie.Need-cast-t8
+cast-t8 c = let h = program-inside _ (c .before .before .before .before .before .before .before .args .names .now) (c .before .before .before .before .before .before .before .args .program .now) _ _ (c .before .k .given .1) (c .before .before .before .program-of .ensures) in search needs
+
+add-t9 : tie.Need-add-t9
+add-t9 c = let h = program-inside _ (c .before .before .before .before .before .before .before .args .names .now) (c .before .before .before .before .before .before .before .args .program .now) _ _ (c .before .k .given .1) (c .before .before .before .program-of .ensures) in search needs
+
+returns-2 : tie.Need-returns-2
+returns-2 c = scope-known _ _ _ (c .before .before .before .before .if1 .left) _ (c .before .before .before .program-of .ensures) _ _ refl (c .before .k .given .1)
+
+enum-told : tie.Need-enum-told
+enum-told c = search needs
+
+returns-3 : tie.Need-returns-3
+returns-3 c = scope-unknown _ _ _ (c .before .before .before .if1 .left) _ (c .before .before .program-of .ensures) (c .enum-told .given .1)
+
+pub scope-of-spec : {M : Type 1} → statement M
+scope-of-spec =
+    tie.close
+    (tie.spec
+    returns
+    (λ c κs. search needs)
+    (λ c. search needs)
+    cast-t8
+    add-t9
+    returns-2
+    enum-told
+    returns-3)

@@ -1,0 +1,54 @@
+use Prim.Native.Nat.{_-_, _≤_}
+use mathlib.Core.Path.{_≡_, refl}
+use lib.ListN.{length, drop}
+use Rattle.definition.specs.Bytes.{numbers}
+use Rattle.definition.specs.Symbols.{due}
+use Rattle.listing.specs.Entries.{EachValid}
+use Rattle.listing.proofs.Filled.{further-more}
+use Rattle.pallet.specs.Turns.{behind}
+use Rattle.pallet.proofs.Walking.{leftBy, bound-more, bound-full, bound-done}
+use borrow.Author.Needs.{needs}
+use Rattle.pallet.proofs.walks.next_bound.Statement.{statement}
+use Rattle.pallet.proofs.walks.next_bound.Tie as tie
+
+abbrev Inv-loop : tie.InvT-loop
+Inv-loop structures tags others names tag-names scope start body n size buf₀ used₀ bound₀ hint₀ buf used bound hint = (4 ≤ used) × (used ≤ size) × (length buf ≡ length buf₀) × EachValid structures tags others names tag-names (λ t. leftBy (size - used) (due t scope (numbers n (drop 2 body)) bound) ≡ behind size (due t scope (numbers n (drop 2 body)) start))
+
+abbrev μ-loop : tie.MeasureT-loop
+μ-loop structures tags others names tag-names scope start body n size buf₀ used₀ bound₀ hint₀ buf used bound hint = size - used
+
+loop-holds : tie.Need-loop-holds Inv-loop μ-loop
+loop-holds c = (search needs, search needs, refl, λ m p z y v. refl)
+
+loop-less : tie.Need-loop-less Inv-loop μ-loop
+loop-less c = let f = further-more _ _ _ (c .before .u .given .1) (c .before .before .before .before .before .page-step .ensures .1) in search needs
+
+loop-again : tie.Need-loop-again Inv-loop μ-loop
+loop-again c = let f = further-more _ _ _ (c .before .u .given .1) (c .before .before .before .before .before .page-step .ensures .1) in (search needs, search needs, search needs, λ m p z y v. bound-more _ _ _ _ _ _ _ _ _ _ (c .before .before .before .before .before .page-step .ensures .0 m p z y v) (c .before .before .before .before .before .before .before .loop .inv .3 m p z y v) (c .before .u .given .1))
+
+enum-told : tie.Need-enum-told Inv-loop μ-loop
+enum-told c = search needs
+
+returns : tie.Need-returns Inv-loop μ-loop
+returns c = λ m p z y v. bound-full _ _ _ _ _ _ _ _ _ _ (c .before .before .before .before .page-step .ensures .0 m p z y v) (c .before .before .before .before .before .before .loop .inv .3 m p z y v) (c .enum-told .given .1) (c .before .before .before .before .before .before .loop .inv .1)
+
+returns-2 : tie.Need-returns-2 Inv-loop μ-loop
+returns-2 c = λ m p z y v. bound-done _ _ _ _ _ _ _ _ _ _ (c .before .before .before .before .page-step .ensures .0 m p z y v) (c .before .before .before .before .before .before .loop .inv .3 m p z y v) (c .enum-told2 .given .1)
+
+pub next-bound-spec : {M : Type 1} → statement M
+next-bound-spec =
+    tie.close
+    (tie.spec
+    Inv-loop
+    μ-loop
+    loop-holds
+    (λ c κs. search needs)
+    (λ c. search needs)
+    loop-less
+    loop-again
+    enum-told
+    (λ c. search needs)
+    returns
+    (λ c. search needs)
+    (λ c. search needs)
+    returns-2)
