@@ -1,4 +1,4 @@
-/* Reads the array `Rows` of the pallet bench by a continued read, and prints it. From the root of the repository:
+/* Reads the array `Rows` of the pallet bench by a continued read, and again by ciplink_read_whole, and prints it. From the root of the repository:
  *   rt staticlib export && cc -I crates/export examples/pallet.c target/staticlib/libexport.a -o target/pallet && target/pallet */
 #include <stdio.h>
 #include <string.h>
@@ -25,7 +25,8 @@ static uint32_t number(const uint8_t *bytes) {
 }
 
 int main(void) {
-  uint8_t joined[40], reply[22];
+  uint8_t joined[40], whole[40], reply[22];
+  const uint8_t path[] = {0x91, 4, 'R', 'o', 'w', 's'};
   size_t got = 0;
 
   for (int i = 0; i < 10; i++) memory[4 + 4 * i] = (uint8_t)(i * i); /* Rows: 0, 1, 4, 9 .. */
@@ -52,6 +53,15 @@ int main(void) {
     got += (size_t)length - 6;
   } while (reply[2] == 6);
 
+  /* the same done by the library: the joined bytes are those selected */
+  uint64_t bytes = ciplink_read_whole(structures, 1, members, 1, no_programs, 0, tags, 3, no_others, 0, names, sizeof names - 1,
+                                      tag_names, sizeof tag_names - 1, templates, sizeof templates,
+                                      CIPLINK_MULTI_SERVICE | CIPLINK_INSTANCE_IDS, memory, sizeof memory, path, sizeof path, 10,
+                                      sizeof reply, reply, sizeof reply, whole, sizeof whole);
+  if (bytes != got || memcmp(joined, whole, got) != 0) {
+    printf("the whole read differs\n");
+    return 1;
+  }
   for (size_t at = 0; at + 4 <= got; at += 4) printf("Rows[%zu] = %u\n", at / 4, (unsigned)number(joined + at));
   return 0;
 }
