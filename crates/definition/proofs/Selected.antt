@@ -58,10 +58,6 @@ module _ (t : Tables) (f : Flags) (path : List Segment) (elements : ℕ) (s : Se
   within : Within (length memory) s
   within = rw given at (target-within t (length memory) (tagTarget t f false path) elements (target-lies t f (length memory) ok false path))
 
-  pub selected-length : eqb (s .bit) 8 ≡ true → length (selectedBytes s memory) ≡ s .size
-  unfolding selectedBytes
-  selected-length e = rw e (length-part memory (s .start) (s .size) (within .inside))
-
   pub granted-some : 0 < length (selectedBytes s memory)
   unfolding selectedBytes
   granted-some =

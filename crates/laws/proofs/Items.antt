@@ -45,9 +45,6 @@ module _ {A : Type 0} (f : ℕ → A) (next : A → ℕ) (e : ℕ) (forward : (a
   items-end zero at h = rw (le-ltb at e h)
   items-end (suc m) at h = rw (le-ltb at e h)
 
-  pub next-after : (at n : ℕ) (a : A) → a ≡ f at → n ≡ next a → (n ≡ 0 → ⊥) → at < n
-  next-after at n a p q h = rw (q, p) (forward at (λ t. h (q ∙ ap next p ∙ t)))
-
   module _ {S R : Type 0} (g : A → S → S) (done : S → R) (bad : R) (z : S) where
     module _ (s : S) (at : ℕ) (here : over g done bad s (items f next e e at) ≡ over g done bad z (items f next e e 0)) where
       pub over-next : (t : S) (n : ℕ) (a : A) → at < e → a ≡ f at → n ≡ next a → (n ≡ 0 → ⊥) → t ≡ g a s → over g done bad t (items f next e e n) ≡ over g done bad z (items f next e e 0)

@@ -5,6 +5,7 @@ pub mod Fold
 pub mod Table
 pub mod Items
 pub mod Put
+pub mod Parts
 pub mod Sorted
 pub mod Tests
 pub mod Least

@@ -1,11 +1,11 @@
 -- Writes into a list: lengths, what a write leaves, and two writes in a row as one.
 -- Assumes nothing.
 use mathlib.Core.Path.{_≡_, refl, sym, ap, _∙_}
-use mathlib.Core.List.{List, [], _∷_, _++_, append-assoc}
+use mathlib.Core.List.{List, [], _∷_, _++_, append-assoc, append-nil}
 use Prim.Native.Nat.{ℕ, zero, suc, _+_, _-_, _≤_, _<_}
 use native.Mathlib.Omega.{arith}
 use native.Mathlib.Numerals.{add-one}
-use native.Mathlib.Nat.{add-assoc, sub-self, zero-add}
+use native.Mathlib.Nat.{add-assoc, add-zero, sub-self, zero-add}
 use lib.ListN.{length, take, drop, set, replicate, length-append, length-drop, length-replicate, take-append-drop, replicate-append-replicate}
 use lib.Seq.{take-at, drop-at, drop-append-add, drop-drop, length-take-le, set-split, append-snoc, take-all, take-take, take-nil, drop-cons, set-at, paste}
 use Rattle.laws.specs.Put.{put, laid, zeroed}
@@ -44,18 +44,14 @@ put-put xs a ys zs h =
     ∙ ap (λ (l : List ℕ). take a xs ++ ys ++ zs ++ l) (drop-put xs a ys fits (length zs))
     ∙ simp (append-assoc, length-append, add-assoc)
 
+pub put-none : (xs : List ℕ) (at : ℕ) → put xs at [] ≡ xs
+unfolding put
+put-none xs at = simp (add-zero, append-nil) (take-append-drop at xs)
+
 -- one store is a put of one byte
 pub set-put : (xs : List ℕ) (i v : ℕ) → i < length xs → set xs i v ≡ put xs i (v ∷ [])
 unfolding put
 set-put xs i v h = set-split xs i v h ∙ rw (add-one i, append-snoc)
-
-pub length-zeroed : (at m : ℕ) (xs : List ℕ) → at ≤ m → m ≤ length xs → length (zeroed at m xs) ≡ length xs
-unfolding zeroed
-length-zeroed at m xs h k = simp (length-append, length-take-le at xs (omega arith), length-drop, length-replicate) (omega arith)
-
-pub length-laid : (m : ℕ) (old ys : List ℕ) → length ys ≤ m → m ≤ length old → length (laid m old ys) ≡ length old
-unfolding laid
-length-laid m old ys h k = simp (length-append, length-drop, length-replicate) (omega arith)
 
 -- zeros after what was put at the start: the reply laid out
 pub zeroed-laid : (m : ℕ) (old xs ys : List ℕ) (n : ℕ) → length ys ≡ n → take n xs ≡ ys → drop m xs ≡ drop m old → zeroed n m xs ≡ laid m old ys

@@ -24,15 +24,6 @@ module _ {A R : Type 0} (p : A → Bool) (hit : ℕ → R) (miss : R) (d : A) (i
   unfolding scan
   scan-none h = rw (drop-of-length-le xs h) at here
 
-  -- the same, with the test's value itself, for a test that the loop makes in place
-  pub scan-skip : (j : ℕ) → i < length xs → p (getD xs i d) ≡ false → j ≡ i + 1 → scan p hit miss j (drop j xs) ≡ scan p hit miss 0 xs
-  unfolding scan
-  scan-skip j h e t = rw (t, add-one) (rw (drop-cons xs i d, e) at here)
-
-  pub scan-hit : (v : R) → i < length xs → p (getD xs i d) ≡ true → v ≡ hit i → v ≡ scan p hit miss 0 xs
-  unfolding scan
-  scan-hit v h e t = t ∙ rw (drop-cons xs i d, e) at here
-
 pub ruleset scans = (scan-next, scan-found, scan-none)
 
 -- a function goes through a scan

@@ -1,6 +1,6 @@
 -- Lists in the order of their keys: sorting by insertion gives one, and the elements from the key after that of the k-th are the rest.
 -- Assumes nothing.
-use mathlib.Core.Path.{_≡_, refl, sym, _∙_}
+use mathlib.Core.Path.{_≡_, refl, sym, ap, _∙_}
 use mathlib.Core.Logic.{_≢_}
 use mathlib.Core.List.{List, [], _∷_, map}
 use Prim.Native.Nat.{ℕ, zero, suc, _≤_, _<_}
@@ -102,3 +102,23 @@ module _ {A : Type 0} (key : A → ℕ) where
   unfolding sort
   Sorted-sort [] d = tt
   Sorted-sort (x ∷ xs) d = Sorted-insert x (sort key xs) (All-sort (λ y. key x ≢ key y) xs (d .0)) (Sorted-sort xs (d .1))
+
+  -- ---- how many
+
+  length-insert : (x : A) (ys : List A) → length (insert key x ys) ≡ suc (length ys)
+  unfolding insert
+  length-insert x [] = refl
+  length-insert x (y ∷ ys) =
+      pick-all (λ (l : List A). length l ≡ suc (suc (length ys))) (ltb (key x) (key y)) refl (ap suc (length-insert x ys))
+
+  pub length-sort : (xs : List A) → length (sort key xs) ≡ length xs
+  unfolding sort
+  length-sort [] = refl
+  length-sort (x ∷ xs) = length-insert x (sort key xs) ∙ ap suc (length-sort xs)
+
+  pub length-from : (start : ℕ) (xs : List A) → length (from key start xs) ≤ length xs
+  unfolding from
+  length-from start [] = omega arith
+  length-from start (x ∷ xs) =
+      let r = length-from start xs in
+      pick-all (λ (l : List A). length l ≤ suc (length xs)) (leb start (key x)) (omega arith) (omega arith)

@@ -8,7 +8,7 @@ use native.Mathlib.Nat.{mul-le-mul}
 use lib.ListN.{length, drop}
 use borrow.Author.Tests.{eq-eqb, ne-eqb}
 use Rattle.laws.specs.Put.{put}
-use Rattle.laws.proofs.Put.{put-then}
+use Rattle.laws.proofs.Put.{put-none, put-then}
 use Rattle.definition.specs.Bytes.{u16At, le16, le32, numbers}
 use Rattle.definition.specs.Symbols.{Symbol as Defined, symbolAttribute, attributesOf}
 use Rattle.cip.specs.Writes.{Written}
@@ -18,15 +18,11 @@ use Rattle.listing.specs.Entries.{made, otherAttribute}
 use Rattle.listing.specs.declared.values.Value.{Value}
 use Rattle.listing.specs.declared.entries.Symbol.{Symbol}
 use Rattle.listing.proofs.Lists.{far-none, far-length, far-room, far-put}
-use Rattle.listing.proofs.Sizes.{put-none}
 
 -- ---- numbers that wrap
 
 pub product-fits : (x y : ℕ) → x ≤ 4294967295 → y ≤ 4294967295 → x * y ≤ 18446744065119617025
 product-fits x y h k = mul-le-mul h k
-
-pub wrap-twice : (r m x o : ℕ) → r ≡ (m + o) % 4294967296 → m ≡ x % 4294967296 → r ≡ (x + o) % 4294967296
-wrap-twice r m x o e f = omega arith
 
 pub low-same : (x y : ℕ) → x ≡ y % 65536 → le16 x ≡ le16 y
 low-same x y e = rw (e, le16-low)

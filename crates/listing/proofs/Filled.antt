@@ -12,7 +12,7 @@ use borrow.Author.Tests.{lt-ltb, le-ltb, le-leb, lt-leb, ne-eqb, leb-true, leb-f
 use Rattle.laws.specs.Pick.{pick}
 use Rattle.laws.specs.Put.{put, zeroed, laid}
 use Rattle.laws.proofs.Chain.{by-test}
-use Rattle.laws.proofs.Put.{put-then, drop-put-past, zeroed-laid, length-part}
+use Rattle.laws.proofs.Put.{put-none, put-then, drop-put-past, zeroed-laid, length-part}
 use Rattle.definition.specs.Bytes.{part}
 use Rattle.definition.specs.Reply.{Status, general, reply, fail, room, success, partial, tooLarge}
 use Rattle.definition.specs.Tables.{Tables}
@@ -24,7 +24,6 @@ use Rattle.listing.specs.Entries.{stopped, Stepped, more, full, done, Fu
 use Rattle.listing.specs.declared.pages.Step.{Step}
 use Rattle.listing.specs.declared.pages.Step.the-variants.{More, Full, Done}
 use Rattle.listing.proofs.Laws.{reply-body, header-four, reply-long}
-use Rattle.listing.proofs.Sizes.{put-none}
 
 -- ---- the reply of a page that has some entries already: `first` says that it has none yet
 

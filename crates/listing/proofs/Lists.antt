@@ -12,7 +12,7 @@ use lib.Seq.{getD-drop}
 use borrow.Author.Tests.{lt-ltb, ltb-false}
 use Rattle.laws.specs.Put.{put, zeroed}
 use Rattle.laws.proofs.Chain.{clash, by-test, pick-yes}
-use Rattle.laws.proofs.Put.{put-then}
+use Rattle.laws.proofs.Put.{put-none, put-then}
 use Rattle.definition.specs.Bytes.{u16At, le16, le32, numbers, counted}
 use Rattle.definition.specs.Reply.{reply, room, success, fail, tooLarge, tooShort}
 use Rattle.definition.specs.Attributes.{attributeEntry, attributeEntries, listReply}
@@ -28,7 +28,6 @@ use Rattle.listing.specs.declared.attributes.Object.{Object}
 use Rattle.listing.specs.declared.attributes.Count.{Count}
 use Rattle.listing.specs.declared.attributes.Count.the-variants.{Of, Missing}
 use Rattle.listing.proofs.Laws.{header-then, capped-fits, capped-large}
-use Rattle.listing.proofs.Sizes.{put-none}
 
 -- ---- the numbers
 

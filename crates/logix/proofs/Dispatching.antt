@@ -31,7 +31,7 @@ use Rattle.path.specs.declared.Object.the-variants.{Of, Nothing}
 use Rattle.logix.proofs.Offsets.{HasParts}
 use Rattle.logix.specs.Placed.{Placed, PartAnswers}
 use Rattle.logix.specs.declared.parts.PartReply.{PartReply}
-use Rattle.logix.proofs.Bytes.{to-end}
+use Rattle.laws.proofs.Parts.{to-end}
 use Rattle.logix.proofs.Placing.{in-the-tail, by-scratch}
 use Rattle.logix.proofs.Going.{partsIn, parts-in-long}
 

@@ -24,7 +24,7 @@ use Rattle.logix.specs.Placed.{PartOf, PartAnswers, Marked, outcomeOf, C
 use Rattle.logix.specs.declared.parts.PartReply.{PartReply}
 use Rattle.listing.proofs.Lists.{numbers-long}
 use Rattle.logix.proofs.Offsets.{parts-long}
-use Rattle.logix.proofs.Bytes.{part-stays, part-grows, laid-drop}
+use Rattle.laws.proofs.Parts.{part-stays, part-grows, laid-drop}
 use Rattle.logix.proofs.Turns.{join-one, offsets-one, offsets-long, every-one, before, before-one}
 
 abbrev pub isFine : List ℕ → Bool

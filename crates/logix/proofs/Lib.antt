@@ -1,5 +1,4 @@
 pub mod Offsets
-pub mod Bytes
 pub mod Turns
 pub mod Going
 pub mod Placing

@@ -1,7 +1,7 @@
 -- A page's request: its bytes piece by piece, the segments of its path, and what the dispatcher answers it with.
 -- Assumes nothing.
 use mathlib.Core.Path.{_≡_, refl, sym, ap, _∙_}
-use mathlib.Core.Bool.{true, false}
+use mathlib.Core.Bool.{true}
 use mathlib.Core.List.{List, [], _∷_, _++_, append-assoc, append-nil}
 use mathlib.Core.Option.{Option, none, some}
 use Prim.Native.Nat.{ℕ, suc, _+_, _-_, _/_, _%_, _≤_, _<_}
@@ -14,7 +14,8 @@ use Rattle.laws.specs.Pick.{pick}
 use Rattle.laws.specs.Put.{put}
 use Rattle.laws.specs.Tests.{every}
 use Rattle.laws.proofs.Chain.{by-test, clash}
-use Rattle.laws.proofs.Put.{put-then, take-put}
+use Rattle.laws.proofs.Put.{put-then, put-none, take-put}
+use Rattle.laws.proofs.Parts.{laid-byte}
 use Rattle.laws.proofs.Tests.{both-true}
 use Rattle.definition.specs.Bytes.{le32, u32At, counted}
 use Rattle.definition.specs.Reply.{Answer, answered, reply, room}
@@ -27,12 +28,10 @@ use Rattle.definition.specs.Answer.{byService, answer}
 use Rattle.definition.proofs.Replies.{proper-answer}
 use Rattle.cip.specs.Writes.{Written}
 use Rattle.path.proofs.Segments.{segments-end, segments-next}
-use Rattle.listing.proofs.Sizes.{put-none}
 use Rattle.continued.specs.Point3.{Encodes}
 use Rattle.continued.proofs.Requests.{u32-le32, to-service}
 use Rattle.services.specs.Answers.{Answers}
 use Rattle.pallet.specs.Lists.{scopeNamed, scopeOf, namePath, scopePath, listPath, listRequest, isAskable}
-use Rattle.pallet.proofs.Joining.{laid-byte}
 
 -- ---- the bytes
 
@@ -258,29 +257,9 @@ module _ (t : Tables) (f : Flags) (m program attributes : List ℕ) (id limit : 
   list-granted scope numbers s c a =
       ap (λ (a : Answer). a .reply) list-answer ∙ rw (page-starts program id t scope s, c, a)
 
-  -- the status of a page that is not granted: an unknown scope, a short list, an unknown number
-  abbrev status : ℕ
-  status = getD (answer t f m (listRequest program attributes id) limit .reply) 2 0
-
-  status-is : status ≡ getD (listSymbols t 0x55 (decoded program id) attributes limit) 2 0
-  status-is = ap (λ (a : Answer). getD (a .reply) 2 0) list-answer
-
-  pub scope-refused : scopeOf t program ≡ none → status ≡ 0x05
-  unfolding listSymbols reply
-  scope-refused e = status-is ∙ rw (page-lost program id t e)
-
-  pub list-refused : (scope : ℕ) → scopeOf t program ≡ some scope → counted attributes ≡ none → status ≡ 0x13
-  unfolding listSymbols reply
-  list-refused scope s c = status-is ∙ rw (page-starts program id t scope s, c)
-
-  pub number-refused : (scope : ℕ) (numbers : List ℕ) → scopeOf t program ≡ some scope → counted attributes ≡ some numbers → every isListed numbers ≡ false
-      → status ≡ 0x14
-  unfolding listSymbols reply
-  number-refused scope numbers s c a = status-is ∙ rw (page-starts program id t scope s, c, a)
-
   -- the status alone
   pub list-status : (n : ℕ) (old new left : List ℕ) → Answers limit (answer t f m (listRequest program attributes id) limit) old n new left
-      → (getD new 2 0 ≡ status) × (left ≡ m)
+      → (getD new 2 0 ≡ getD (answer t f m (listRequest program attributes id) limit .reply) 2 0) × (left ≡ m)
   list-status n old new left r =
       let long = proper-answer t f m (listRequest program attributes id) limit .headed .long in
       (laid-byte (room limit) old _ new (r .buffer-is) 2 (omega (arith, long)), r .memory-is ∙ list-keeps)

@@ -6,9 +6,10 @@ use mathlib.Core.List.{List, []}
 use Prim.Native.Nat.{ℕ, _+_, _-_, _≤_, _<_}
 use native.Mathlib.Omega.{arith}
 use lib.ListN.{length, take, drop, getD, length-append, length-take, length-drop, take-append-drop}
-use lib.Seq.{take-all, take-add, drop-drop, drop-append-seam, getD-take, length-take-le}
+use lib.Seq.{take-all, take-add, drop-drop, drop-append-seam, length-take-le}
 use Rattle.laws.specs.Put.{put, laid}
-use Rattle.laws.proofs.Put.{put-then, take-laid, part-of-take, length-part}
+use Rattle.laws.proofs.Put.{put-then, length-part}
+use Rattle.laws.proofs.Parts.{laid-byte, laid-rest}
 use Rattle.definition.specs.Reply.{Answer, reply, room}
 use Rattle.definition.specs.Tables.{Tables, Flags}
 use Rattle.definition.specs.Fragment.{space, sizeOf, statusOf, fragmentReply}
@@ -26,20 +27,6 @@ use Rattle.services.specs.Answers.{Answers}
 use Rattle.pallet.specs.Whole.{chosen, firstStatus}
 use Rattle.pallet.specs.Parts.{chosenBytes, Sendable, Joinable, Brings}
 use Rattle.pallet.proofs.Sending.{read-keeps, readable, selected-answer}
-
--- ---- what stands at the front of a buffer that a reply is laid into
-
-module _ (m : ℕ) (old r new : List ℕ) (lies : new ≡ laid m old r) where
-  front : take (length r) new ≡ r
-  front = rw lies (take-laid m old r)
-
-  pub laid-byte : (i : ℕ) → i < length r → getD new i 0 ≡ getD r i 0
-  laid-byte i h = sym (getD-take (length r) new i 0 h) ∙ ap (λ (l : List ℕ). getD l i 0) front
-
-  pub laid-rest : (a n : ℕ) → n ≡ length r → a ≤ n → take (n - a) (drop a new) ≡ drop a r
-  laid-rest a n e h =
-      sym (part-of-take a (n - a) (length r) new (omega arith)) ∙ ap (λ (l : List ℕ). take (n - a) (drop a l)) front
-      ∙ take-all (n - a) (drop a r) (omega (arith, length-drop a r))
 
 -- ---- a fragment of the bytes from an offset on
 

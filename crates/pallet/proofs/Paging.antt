@@ -16,6 +16,7 @@ use Rattle.laws.specs.Put.{put, laid}
 use Rattle.laws.specs.Sorted.{All}
 use Rattle.laws.proofs.Chain.{by-test}
 use Rattle.laws.proofs.Put.{put-then}
+use Rattle.laws.proofs.Parts.{laid-byte, laid-rest}
 use Rattle.laws.proofs.Sorted.{All-from}
 use Rattle.definition.specs.Bytes.{numbers}
 use Rattle.definition.specs.Reply.{reply, room}
@@ -37,7 +38,6 @@ use Rattle.pallet.specs.declared.walks.Start.{Start}
 use Rattle.pallet.specs.declared.walks.Start.the-variants.{At, Nowhere}
 use Rattle.pallet.specs.Lists.{listRequest, longest}
 use Rattle.pallet.specs.Turns.{Askable, Granted, behind, StartsAt, BringsPage, Page}
-use Rattle.pallet.proofs.Joining.{laid-byte, laid-rest}
 use Rattle.pallet.proofs.Asking.{askable-short, list-keeps, list-granted}
 
 -- ---- entries and the longest of them

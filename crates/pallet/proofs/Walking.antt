@@ -1,6 +1,6 @@
 -- The walk over the entries of a scope, one after another by ascending ID: all of them measured, and as far as a page's go.
 -- Assumes nothing.
-use mathlib.Core.Path.{_≡_, refl, sym, ap, _∙_}
+use mathlib.Core.Path.{_≡_, refl, sym, _∙_}
 use mathlib.Core.Bool.{true}
 use mathlib.Core.List.{List, [], _∷_, map}
 use Prim.Native.Nat.{ℕ, suc, _+_, _-_, _*_, _≤_, _<_, max}
@@ -9,8 +9,8 @@ use lib.Dec.{leb, ltb, eqb}
 use lib.ListN.{length, drop, length-append, length-map}
 use borrow.Author.Tests.{leb-true, le-leb, lt-leb, ltb-false}
 use Rattle.laws.specs.Fold.{fold}
-use Rattle.laws.specs.Sorted.{insert, sort, from}
 use Rattle.laws.proofs.Chain.{by-test, pick-all}
+use Rattle.laws.proofs.Sorted.{length-sort, length-from}
 use Rattle.laws.proofs.Tests.{among, both-none}
 use Rattle.definition.specs.Tables.{Tables, Row, tagScope, tagId, otherScope}
 use Rattle.definition.specs.Valid.{valid, t1}
@@ -32,25 +32,6 @@ use Rattle.pallet.specs.Lists.{longest}
 use Rattle.pallet.specs.Turns.{Measured, behind, startBy, StartsAt}
 
 -- ---- T1: a scope has few symbols
-
-module _ {A : Type 0} (key : A → ℕ) where
-  length-insert : (x : A) (ys : List A) → length (insert key x ys) ≡ suc (length ys)
-  unfolding insert
-  length-insert x [] = refl
-  length-insert x (y ∷ ys) =
-      pick-all (λ (l : List A). length l ≡ suc (suc (length ys))) (ltb (key x) (key y)) refl (ap suc (length-insert x ys))
-
-  length-sort : (xs : List A) → length (sort key xs) ≡ length xs
-  unfolding sort
-  length-sort [] = refl
-  length-sort (x ∷ xs) = length-insert x (sort key xs) ∙ ap suc (length-sort xs)
-
-  length-from : (start : ℕ) (xs : List A) → length (from key start xs) ≤ length xs
-  unfolding from
-  length-from start [] = omega arith
-  length-from start (x ∷ xs) =
-      let r = length-from start xs in
-      pick-all (λ (l : List A). length l ≤ suc (length xs)) (leb start (key x)) (omega arith) (omega arith)
 
 length-scope : (scopeOf : Row → ℕ) (make : Row → Symbol) (scope : ℕ) (rows : List Row) → length (inScopeOnly scopeOf make scope rows) ≤ length rows
 unfolding inScopeOnly

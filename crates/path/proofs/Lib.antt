@@ -6,5 +6,7 @@ pub mod Objects
 pub mod Laws
 pub mod Branches
 pub mod Counts
+pub mod Reaching
 pub mod Cursors
 pub mod Thin
+pub mod Callees

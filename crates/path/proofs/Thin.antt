@@ -18,7 +18,7 @@ use prog.Wp.{Heap, Calls, Loops, WpFn, Tables}
 use ghost.Atoms.{Atoms, sem}
 use contract.Lifetimes.{Lfts}
 use contract.Monad.{fact}
-use types.Kit.{Given, ‵, raw, _⊛_, given, ⋆, some, later, _$_, _∵_, !, qed, by, move, drop, use1, use2, split, join, learn, pick, fsplit, fjoin, suffices, frame, await, done}
+use types.Kit.{Given, Item, ‵, raw, Goal, Soaks, Seq, _⊛_, given, ⋆, some, later, _$_, _∵_, !, qed, by, move, drop, use1, use2, split, join, learn, pick, fsplit, fjoin, suffices, frame, await, done}
 use types.Part.{whole, sub, look-in}
 use types.Run.{look, init, forget, stop, fld, from, load, of-opd, and-then, no-more, assigns, land, returns, enter, alloc1, alloc0, params1, pass1, pass0, free1, free0}
 use sound.WpLaws.{FmC, fmOf, WpFn-mono}
@@ -42,6 +42,7 @@ use denote.Triple.Walked.{says, Stays, stay-none, walkOf, goes-none, Walks, ends
 use denote.Exit.{yes}
 use denote.Triple.Clauses.{Ended, Clauses, closing, ensured, lasts}
 use Rattle.path.specs.declared.reader.Reader.{Reader}
+use Rattle.path.proofs.Branches.{returned}
 use Rattle.path.proofs.reader.Reader as T
 use Rattle.path.proofs.reader.Reader.Laws as T′
 
@@ -215,5 +216,11 @@ module _ (S : RattleType) (τ : Ty) (callee : Name) (P : List ℕ → ℕ → S 
     pub goes-thin : ent 𝓤 (⋆ 𝓤 H A (‵ (B (κ, tt) .own d (u ∷ [])) ∷ (‵ (flft κ q) ⊛ ‵ ftrue) ∷ [])) (Of 𝓤 H A .pre to-thin)
     goes-thin = qed W (‵ (B (κ, tt) .own d (u ∷ [])) ∷ (‵ (flft κ q) ⊛ ‵ ftrue) ∷ []) ∵ nothing ! $ move ! (1 ∷ 0 ∷ []) $ fjoin ! $ move ! (1 ∷ 0 ∷ []) $ join ! $ frame ! $ done !
 
-    pub thin-said : (r : S .Denot) → ent 𝓤 (ensured 𝓤 H A ended (clauses 𝓤) (κ, tt) (d, tt) tt r) (fact 𝓤 (P (now (d .path)) (d .at) r))
+    thin-said : (r : S .Denot) → ent 𝓤 (ensured 𝓤 H A ended (clauses 𝓤) (κ, tt) (d, tt) tt r) (fact 𝓤 (P (now (d .path)) (d .at) r))
     thin-said r = exE 𝓤 _ (λ ws. snd∗ 𝓤 (sem 𝓤 H A (lasts ended (κ, tt) (d, tt) ws)) (fact 𝓤 (P (now (d .path)) (d .at) r)))
+
+    pub thin-told : {K : Type 0} {Γ : List (Item 𝓤)} {G : Goal 𝓤 H} → K → Soaks G → (w : Val)
+        → ((r : S .Denot) → P (now (d .path)) (d .at) r → Is S r (w ∷ []) → Seq K W (‵ (S .own r (w ∷ [])) ∷ (‵ (flft κ q) ⊛ ‵ ftrue) ∷ Γ) G) → Seq K W (raw (Of 𝓤 H A .post to-thin w) ∷ Γ) G
+    thin-told t z w k =
+        use1 W (later (some (λ (r : S .Denot). ((‵ (flft κ q) ⊛ ‵ ftrue) ⊛ ‵ (S .own r (w ∷ []))) ⊛ raw (ensured 𝓤 H A ended (clauses 𝓤) (κ, tt) (d, tt) tt r)))) (id⊢ 𝓤 _) $
+        returned t z S (P (now (d .path)) (d .at)) thin-said k

@@ -1,3 +1,4 @@
 pub mod Decode
 pub mod Paths
+pub mod Nth
 pub mod Cursor

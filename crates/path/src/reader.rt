@@ -6,6 +6,7 @@ ghost use lib.Dec.{leb};
 ghost use lib.ListN.{length};
 ghost use Rattle.path.specs.Cursor.{holds, byteAt, wordAt, longAt, takenAt};
 ghost use Rattle.path.specs.Paths.{Decoded, checkOf};
+ghost use Rattle.path.specs.Nth.{Nth, Reached};
 
 /// A path and a position in it, or past its end.
 pub struct Reader<'a> {
@@ -167,4 +168,32 @@ pub fn count_segments(path: &[u8]) -> crate::Check
         r = moved(r, next);
     }
     crate::Check::Segments(count)
+}
+
+/// A path's i-th segment, if it has one: a reader goes over i segments and reads the one where it stands.
+fn reached(path: &[u8], i: usize) -> crate::Segment
+    ensures { λ s. ⌜ Reached (now (path .entry)) i s ⌝ }
+{
+    let mut r = new(path);
+    let mut left = i;
+    while left > 0 {
+        r = moved(r, crate::next_of(segment(r)));
+        left -= 1;
+    }
+    segment(r)
+}
+
+/// A path's i-th segment, counted from 0; `Invalid` behind the last one, and in a path that does not decode.
+pub fn nth_segment(path: &[u8], i: usize) -> crate::Segment
+    ensures { λ s. ⌜ Nth (now (path .entry)) i s ⌝ }
+{
+    match count_segments(path) {
+        crate::Check::Segments(n) => {
+            if i < n {
+                return reached(path, i);
+            }
+            crate::Segment::Invalid
+        }
+        crate::Check::Bad => crate::Segment::Invalid,
+    }
 }

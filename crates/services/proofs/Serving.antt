@@ -26,8 +26,9 @@ use Rattle.resolve.specs.Answers.{Targets}
 use Rattle.resolve.specs.declared.Resolved.{Resolved}
 use Rattle.resolve.specs.declared.Resolved.the-variants.{Found, Turned}
 use Rattle.resolve.proofs.Answering.{found-aimed}
-use Rattle.tags.specs.Storing.{Stores}
-use Rattle.tags.proofs.Lengths.{read-any-lengths, write-any-lengths, masked-any-lengths}
+use Rattle.tags.proofs.Lengths.{read-any-lengths}
+use Rattle.writes.specs.Storing.{Stores}
+use Rattle.writes.proofs.Lengths.{write-any-lengths, masked-any-lengths}
 use Rattle.services.specs.Answers.{Answers, OnPath}
 use Rattle.services.specs.Services.{onFound}
 

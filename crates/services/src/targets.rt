@@ -74,10 +74,10 @@ fn serve(
         return tags::reads::read(structures, templates, memory, service, g, body, limit, buf);
     }
     if service == WRITE_MASKED {
-        let status = tags::masks::masked_write(memory, g, body);
+        let status = writes::masks::masked_write(memory, g, body);
         return cip::fail(buf, limit, service, status);
     }
-    let status = tags::writes::write(structures, memory, service, g, body);
+    let status = writes::values::write(structures, memory, service, g, body);
     cip::fail(buf, limit, service, status)
 }
 

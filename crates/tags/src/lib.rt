@@ -1,8 +1,6 @@
-// Reads, writes and masked writes of a resolved target in tag memory.
+// Reads of a resolved target in tag memory.
 pub mod bits;
-pub mod masks;
 pub mod reads;
-pub mod writes;
 
 ghost use mathlib.Core.Path.{_≡_};
 

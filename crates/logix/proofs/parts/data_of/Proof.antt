@@ -1,5 +1,5 @@
 use Prim.Native.Nat.{_+_}
-use Rattle.logix.proofs.Bytes.{to-end}
+use Rattle.laws.proofs.Parts.{to-end}
 use borrow.Author.Needs.{needs}
 use Rattle.logix.proofs.parts.data_of.Statement.{statement}
 use Rattle.logix.proofs.parts.data_of.Tie as tie

@@ -1,4 +1,4 @@
-use Rattle.logix.proofs.Bytes.{first-none}
+use Rattle.laws.proofs.Parts.{first-none}
 use borrow.Author.Needs.{needs}
 use Rattle.logix.proofs.parts.first_of.Statement.{statement}
 use Rattle.logix.proofs.parts.first_of.Tie as tie

@@ -1,0 +1,41 @@
+use mathlib.Core.Path.{refl}
+use Rattle.laws.proofs.Chain.{chain}
+use Rattle.definition.specs.Write.{writeBit}
+use Rattle.writes.proofs.Storing.{refuses, puts-bit}
+use borrow.Author.Needs.{needs}
+use Rattle.writes.proofs.bits.write_bit.Statement.{statement}
+use Rattle.writes.proofs.bits.write_bit.Tie as tie
+
+returns : tie.Need-returns
+unfolding writeBit
+returns c = refuses _ _ _ _ (search chain) refl
+
+returns-2 : tie.Need-returns-2
+unfolding writeBit
+returns-2 c = refuses _ _ _ _ (search chain) refl
+
+returns-3 : tie.Need-returns-3
+unfolding writeBit
+returns-3 c = refuses _ _ _ _ (search chain) refl
+
+returns-4 : tie.Need-returns-4
+unfolding writeBit
+returns-4 c = refuses _ _ _ _ (search chain) refl
+
+returns-5 : tie.Need-returns-5
+returns-5 c = puts-bit _ _ _ _ _ (c .before .before .before .before .before .before .before .before .before .before .before .if1 .left) (c .before .before .before .before .before .before .before .before .before .if2 .left) (c .before .before .before .before .before .before .before .before .if3 .left) (c .before .before .before .before .before .before .before .if4 .left) (c .before .before .before .before .with-bit .ensures) (c .before .before .put-u8 .ensures)
+
+pub write-bit-spec : {M : Type 1} → statement M
+write-bit-spec =
+    tie.close
+    (tie.spec
+    returns
+    returns-2
+    returns-3
+    returns-4
+    (λ c. search needs)
+    (λ c. search needs)
+    (λ c κs. search needs)
+    (λ c κs. search needs)
+    (λ c. search needs)
+    returns-5)

@@ -1,0 +1,48 @@
+use mathlib.Core.Path.{_≡_, refl}
+use Prim.Native.Nat.{_-_, _≤_}
+use lib.ListN.{length, length-set}
+use lib.Seq.{paste, paste-zero}
+use Rattle.definition.specs.Bytes.{part}
+use Rattle.definition.specs.Masked.{masked}
+use Rattle.writes.proofs.Masking.{mask-turn, mask-end}
+use borrow.Author.Needs.{needs}
+use Rattle.writes.proofs.masks.apply_masks.Statement.{statement}
+use Rattle.writes.proofs.masks.apply_masks.Tie as tie
+
+abbrev Inv-loop : tie.InvT-loop
+Inv-loop memory₀ at ors ands j₀ memory j = (memory ≡ paste memory₀ at (masked (part memory₀ at (length ors)) ors ands) j) × (j ≤ length ors) × (length memory ≡ length memory₀)
+
+abbrev μ-loop : tie.MeasureT-loop
+μ-loop memory₀ at ors ands j₀ memory j = length ors - j
+
+loop-holds : tie.Need-loop-holds Inv-loop μ-loop
+loop-holds c = (paste-zero (c .before .before .before .args .memory .now) (c .before .before .before .args .at) (masked (part (c .before .before .before .args .memory .now) (c .before .before .before .args .at) (length (c .before .before .before .args .ors .now))) (c .before .before .before .args .ors .now) (c .before .before .before .args .ands .now)), search needs, refl)
+
+loop-again : tie.Need-loop-again Inv-loop μ-loop
+loop-again c = (mask-turn (c .before .before .before .before .before .before .before .before .before .args .memory .now) (c .before .before .before .before .before .before .before .before .before .args .at) (c .before .before .before .before .before .before .before .before .before .args .ors .now) (c .before .before .before .before .before .before .before .before .before .args .ands .now) (c .before .before .before .before .before .before .before .before .before .pre .0) (c .before .before .before .before .before .before .before .before .before .pre .1) _ _ (c .before .before .before .before .before .loop .inv .0) _ _ (c .before .before .before .before .loop-test .taken) (c .mask-byte .ensures) refl, search needs, simp length-set (c .before .before .before .before .before .loop .inv .2))
+
+same-length : tie.Need-same-length Inv-loop μ-loop
+same-length c = c .before .loop .inv .2
+
+returns : tie.Need-returns Inv-loop μ-loop
+returns c = mask-end (c .before .before .before .before .before .args .memory .now) (c .before .before .before .before .before .args .at) (c .before .before .before .before .before .args .ors .now) (c .before .before .before .before .before .args .ands .now) (c .before .before .before .before .before .pre .0) (c .before .before .before .before .before .pre .1) _ _ (c .before .loop .inv .0) (c .before .loop .inv .1) (c .loop-test .left)
+
+pub apply-masks-spec : {M : Type 1} → statement M
+apply-masks-spec =
+    tie.close
+    (tie.spec
+    Inv-loop
+    μ-loop
+    loop-holds
+    (λ c. search needs)
+    (λ c. search needs)
+    (λ c. search needs)
+    (λ c. search needs)
+    (λ c κs. search needs)
+    (λ c. search needs)
+    (λ c. search needs)
+    (λ c. search needs)
+    (λ c. search needs)
+    loop-again
+    same-length
+    returns)

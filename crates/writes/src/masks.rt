@@ -1,0 +1,71 @@
+// Masked writes (0x4E): OR first, then AND, byte by byte at any width.
+use cip::Status;
+use model::Target;
+use tags::bits::NO_BIT;
+ghost use mathlib.Core.Path.{_≡_};
+ghost use mathlib.Core.List.{[]};
+ghost use Prim.Native.Nat.{_+_, _≤_};
+ghost use lib.Bits.{bitOr, bitAnd};
+ghost use lib.ListN.{length};
+ghost use Rattle.laws.specs.Put.{put};
+ghost use Rattle.definition.specs.Bytes.{part};
+ghost use Rattle.definition.specs.Masked.{masked, takesMask, maskedStored};
+ghost use Rattle.definition.specs.Types.{atomicSize};
+ghost use Rattle.model.specs.Tables.{targetOf};
+ghost use Rattle.writes.specs.Storing.{Stores};
+
+fn mask_byte(b: u8, ors: u8, ands: u8) -> u8
+    ensures { λ r. ⌜ r ≡ bitAnd (bitOr b ors) ands ⌝ }
+{
+    (b | ors) & ands
+}
+
+/// Masks as many bytes of memory as there are masks.
+fn apply_masks(memory: &mut [u8], at: usize, ors: &[u8], ands: &[u8])
+    requires { ⌜ (length (now ands) ≡ length (now ors)) × (at + length (now ors) ≤ length (now memory)) ⌝ }
+    ensures { λ _. ⌜ now (memory .exit) ≡ put (now (memory .entry)) at (masked (part (now (memory .entry)) at (length (now (ors .entry)))) (now (ors .entry)) (now (ands .entry))) ⌝ }
+{
+    let mut j = 0;
+    while j < ors.len() {
+        memory[at + j] = mask_byte(memory[at + j], ors[j], ands[j]);
+        j += 1;
+    }
+}
+
+/// Whether a target takes masks of a size: no structure, no bit, no BOOL, REAL or LREAL.
+fn takes_mask(g: Target, size: usize) -> bool
+    ensures { λ r. ⌜ r ≡ takesMask (targetOf g []) size ⌝ }
+{
+    if g.bit != NO_BIT {
+        return false;
+    }
+    if model::types::has_bits(g.ty) {
+        return model::lookup::wide(model::types::atomic_size(g.ty)) == size;
+    }
+    false
+}
+
+/// A masked write to a resolved target's first element: Success, or why nothing was stored.
+pub fn masked_write(memory: &mut [u8], g: Target, body: &[u8]) -> Status
+    requires { ⌜ g .start + atomicSize (g .ty) ≤ length (now memory) ⌝ }
+    ensures { λ r. ⌜ Stores (maskedStored (now (memory .entry)) (targetOf g []) (now (body .entry))) (now (memory .entry)) r (now (memory .exit)) ⌝ }
+{
+    if body.len() < 2 {
+        return Status::TooShort;
+    }
+    let size = tags::wide16(cip::u16_at(body, 0));
+    let end = 2 + 2 * size;
+    if body.len() < end {
+        return Status::TooShort;
+    }
+    if end < body.len() {
+        return Status::TooLong;
+    }
+    if takes_mask(g, size) {
+        let start = g.start;
+        let ands = 2 + size;
+        apply_masks(memory, start, &body[2..ands], &body[ands..end]);
+        return Status::Success;
+    }
+    Status::WrongType
+}
