@@ -1,19 +1,24 @@
 -- A loop that compares two lists of one length: the invariant is `agree p (drop i a) (drop i b) ≡ agree p a b`, with `length a ≡ length b`.
 -- Assumes nothing.
-use mathlib.Core.Path.{_≡_, refl, ap}
+use mathlib.Core.Path.{_≡_, refl, sym, ap, _∙_}
 use mathlib.Core.Bool.{Bool, true, false}
 use mathlib.Core.List.{List, [], _∷_}
 use Prim.Native.Nat.{ℕ, zero, suc, _+_, _<_, _≤_}
 use native.Mathlib.Numerals.{add-one}
 use native.Mathlib.Omega.{arith}
-use lib.ListN.{length, getD, drop, drop-of-length-le}
+use lib.ListN.{length, getD, take, drop, drop-of-length-le}
 use lib.Seq.{drop-cons}
 use Rattle.laws.specs.Pick.{both}
 use Rattle.laws.specs.Zip.{agree}
+use Rattle.laws.proofs.Tests.{both-none, both-assoc}
 
 both-false : (t : Bool) {u : Bool} → false ≡ u → false ≡ both t u
 both-false true e = e
 both-false false e = refl
+
+both-all : (t : Bool) → both t true ≡ t
+both-all true = refl
+both-all false = refl
 
 pub agree-length : {A B : Type 0} (p : A → B → Bool) (a : List A) (b : List B) → (length a ≡ length b → ⊥) → false ≡ agree p a b
 unfolding agree
@@ -22,14 +27,22 @@ agree-length p [] (y ∷ ys) h = refl
 agree-length p (x ∷ xs) [] h = refl
 agree-length p (x ∷ xs) (y ∷ ys) h = both-false (p x y) (agree-length p xs ys (λ e. h (ap suc e)))
 
--- one place where they differ is enough
-pub agree-at : {A B : Type 0} (p : A → B → Bool) (d : A) (f : B) (i : ℕ) (a : List A) (b : List B)
-    → i < length a → length a ≡ length b → p (getD a i d) (getD b i f) ≡ false → false ≡ agree p a b
+-- two lists in two parts each, the second ones compared first
+agree-split : {A B : Type 0} (p : A → B → Bool) (m : ℕ) (a : List A) (b : List B)
+    → agree p a b ≡ both (agree p (take m a) (take m b)) (agree p (drop m a) (drop m b))
 unfolding agree
-agree-at p d f i [] b h l e = absurd (omega arith)
-agree-at p d f i (x ∷ xs) [] h l e = refl
-agree-at p d f zero (x ∷ xs) (y ∷ ys) h l e = rw e
-agree-at p d f (suc i) (x ∷ xs) (y ∷ ys) h l e = both-false (p x y) (agree-at p d f i xs ys (omega arith) (omega arith) e)
+agree-split p zero a b = refl
+agree-split p (suc m) [] [] = refl
+agree-split p (suc m) [] (y ∷ ys) = refl
+agree-split p (suc m) (x ∷ xs) [] = refl
+agree-split p (suc m) (x ∷ xs) (y ∷ ys) = ap (both (p x y)) (agree-split p m xs ys) ∙ sym (both-assoc (p x y) _ _)
+
+module _ {A B : Type 0} (p : A → B → Bool) (m : ℕ) (a x : List A) (b y : List B) (x-is : x ≡ drop m a) (y-is : y ≡ drop m b) (r : Bool) (is : r ≡ agree p x y) where
+  pub agree-first : (s : Bool) → r ≡ true → s ≡ agree p (take m a) (take m b) → s ≡ agree p a b
+  agree-first s e f = f ∙ sym (agree-split p m a b ∙ rw (← x-is, ← y-is, ← is, e) (both-all _))
+
+  pub agree-second : r ≡ false → false ≡ agree p a b
+  agree-second e = sym (agree-split p m a b ∙ rw (← x-is, ← y-is, ← is, e, both-none))
 
 module _ {A B : Type 0} (p : A → B → Bool) (d : A) (f : B) (i : ℕ) (a : List A) (b : List B) (here : agree p (drop i a) (drop i b) ≡ agree p a b) (long : length a ≡ length b) where
   pub agree-next : {r : Bool} {j : ℕ} → i < length a → r ≡ p (getD a i d) (getD b i f) → r ≡ true → j ≡ i + 1 → agree p (drop j a) (drop j b) ≡ agree p a b

@@ -2,9 +2,8 @@
 use mathlib.Core.Path.{_≡_}
 use mathlib.Core.List.{List}
 use Prim.Native.Nat.{ℕ, _+_, _*_, _≤_, _<_}
-use lib.ListN.{length}
-use Rattle.definition.specs.Tables.{Tables, Row, Flags as DefinedFlags, noBit}
-use Rattle.definition.specs.Types.{BOOL, sizeIn}
+use Rattle.definition.specs.Tables.{Tables, Row, Flags as DefinedFlags}
+use Rattle.definition.specs.Types.{sizeIn}
 use Rattle.definition.specs.Resolve.{Target as DefinedTarget}
 use Rattle.model.specs.declared.Flags.{Flags}
 use Rattle.model.specs.declared.Target.{Target}

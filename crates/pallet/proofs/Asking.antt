@@ -231,16 +231,6 @@ module _ (program : List ℕ) (id : ℕ) where
         (λ b. let q : 0 ≡ scope = cc (rw b at e) in rw (b, q))
         (λ b. rw b (started (programOf t program) (rw b at e)))
 
-  module _ (t : Tables) where
-    lost : (o : Option ℕ) → scopeNamed o ≡ none → startOf o (some id) ≡ none
-    lost none e = refl
-    lost (some k) e = clash (cc e)
-
-    page-lost : scopeOf t program ≡ none → pageStart t decoded ≡ none
-    unfolding scopeOf pageStart
-    page-lost e =
-        by-test (eqb (length program) 0) (λ b. clash (cc (rw b at e))) (λ b. rw b (lost (programOf t program) (rw b at e)))
-
 -- ---- the answer
 
 module _ (t : Tables) (f : Flags) (m program attributes : List ℕ) (id limit : ℕ) (short : length program ≤ 255) (small : id < 4294967296) where

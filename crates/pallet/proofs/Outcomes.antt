@@ -21,7 +21,6 @@ use Rattle.definition.specs.Page.{Entry, bytesOf}
 use Rattle.definition.specs.Symbols.{isListed, due}
 use Rattle.cip.specs.Writes.{Written}
 use Rattle.model.specs.Rows.{foundOf}
-use Rattle.model.specs.Tables.{tablesOf}
 use Rattle.model.specs.declared.lookup.Found.{Found}
 use Rattle.model.specs.declared.lookup.Found.the-variants.{At, Nothing}
 use Rattle.listing.specs.Objects.{programBy, countIn}
@@ -31,11 +30,13 @@ use Rattle.listing.proofs.Lists.{counted-none, counted-some, count-fits}
 use Rattle.pallet.specs.declared.Whole.the-variants.{Joined, TooShort, TooNarrow, Turned}
 use Rattle.pallet.specs.declared.lists.Scope.{Scope}
 use Rattle.pallet.specs.declared.lists.Scope.the-variants.{In, Unknown}
+use Rattle.pallet.specs.declared.lists.Asked.{Asked}
+use Rattle.pallet.specs.declared.lists.Asked.the-variants as asked
 use Rattle.pallet.specs.declared.walks.Measure.{Measure}
 use Rattle.pallet.specs.declared.walks.Measure.the-variants.{Total, Narrow}
 use Rattle.pallet.specs.Whole.{Received, received}
 use Rattle.pallet.specs.Lists.{scopeNamed, scopeOf, entriesIn, entriesOf, firstPage, longest, wholeOfList, wholeList}
-use Rattle.pallet.specs.Turns.{inScope, scopeBy, acceptedBy, acceptedIn, Askable, Granted, Measured}
+use Rattle.pallet.specs.Turns.{inScope, scopeBy, acceptedBy, acceptedIn, askedBy, Askable, Granted, Measured}
 
 -- ---- the scope
 
@@ -128,34 +129,49 @@ module _ (attributes : List ℕ) where
     unfolding acceptedIn
     refused-list q = refused-of (countIn attributes) refl q
 
+-- ---- both of them
+
+module _ (programs : List Row) (names program attributes : List ℕ) {s : Scope} (s-is : inScope s ≡ scopeBy programs names program) where
+  pub asked-nowhere : s ≡ Unknown → asked.Nothing ≡ askedBy (scopeBy programs names program) (acceptedIn attributes)
+  asked-nowhere q = rw (← s-is, q) refl
+
+  module _ {scope : ℕ} (q : s ≡ In scope) {c : Count} (c-is : c ≡ acceptedIn attributes) where
+    pub asked-refused : c ≡ Missing → asked.Nothing ≡ askedBy (scopeBy programs names program) (acceptedIn attributes)
+    asked-refused e = rw (← s-is, q, ← c-is, e) refl
+
+    pub asked-both : {count n : ℕ} → c ≡ Of count → n ≡ count → asked.Of scope n ≡ askedBy (scopeBy programs names program) (acceptedIn attributes)
+    asked-both e same = rw (← s-is, q, ← c-is, e, same) refl
+
 -- ---- of a table set
 
-module _ (structures members programs tags others : List Row) (names tagNames templates program attributes : List ℕ) where
-  abbrev set : Tables
-  set = tablesOf structures members programs tags others names tagNames templates
-
-  scope-same : scopeOf set program ≡ scopeBy programs names program
+module _ (t : Tables) (program attributes : List ℕ) where
+  scope-same : scopeOf t program ≡ scopeBy (t .programs) (t .names) program
   unfolding scopeOf scopeBy programOf programBy
   scope-same = refl
 
-  module _ (s : Scope) (s-is : inScope s ≡ scopeBy programs names program) where
-    pub entries-nowhere : s ≡ Unknown → entriesOf set program attributes ≡ none
-    unfolding entriesOf
-    entries-nowhere q = let e : scopeOf set program ≡ none = scope-same ∙ sym s-is ∙ ap inScope q in rw e
-
-    pub entries-granted : (scope n count : ℕ) → s ≡ In scope → Of count ≡ acceptedIn attributes → n ≡ count → Granted set program attributes scope n
-    entries-granted scope n count q a e =
-        let l = accepted-list attributes count a in
-        rw e (record { scope-is = scope-same ∙ sym s-is ∙ ap inScope q; list-fits = l .list-fits; numbers-are = l .numbers-are; accepted = l .accepted })
-
-  pub entries-refused : Missing ≡ acceptedIn attributes → entriesOf set program attributes ≡ none
+  nothing-by : (o : Option ℕ) (c : Count) → scopeOf t program ≡ o → c ≡ acceptedIn attributes → asked.Nothing ≡ askedBy o c
+      → entriesOf t program attributes ≡ none
   unfolding entriesOf
-  entries-refused a = refused-list attributes set (scopeOf set program) a
+  nothing-by none c o-is c-is e = rw o-is
+  nothing-by (some k) Missing o-is c-is e = refused-list attributes t (scopeOf t program) c-is
+  nothing-by (some k) (Of count) o-is c-is e = clash (cc e)
 
-pub entries-are : (t : Tables) (program attributes : List ℕ) (scope n : ℕ) → Granted t program attributes scope n
-    → entriesOf t program attributes ≡ some (due t scope (numbers n (drop 2 attributes)) 0)
-unfolding entriesOf
-entries-are t program attributes scope n g = rw (g .scope-is, g .numbers-are, g .accepted)
+  granted-by : {scope n : ℕ} (o : Option ℕ) (c : Count) → scopeOf t program ≡ o → c ≡ acceptedIn attributes → asked.Of scope n ≡ askedBy o c
+      → Granted t program attributes scope n
+  granted-by none c o-is c-is e = clash (cc e)
+  granted-by (some k) Missing o-is c-is e = clash (cc e)
+  granted-by {scope} {n} (some k) (Of count) o-is c-is e =
+      let s : scope ≡ k = cc e in
+      let h : n ≡ count = cc e in
+      let l = accepted-list attributes count c-is in
+      rw (s, h) (record { scope-is = o-is; list-fits = l .list-fits; numbers-are = l .numbers-are; accepted = l .accepted })
+
+  module _ {v : Asked} (v-is : v ≡ askedBy (scopeBy (t .programs) (t .names) program) (acceptedIn attributes)) where
+    pub asked-nothing : v ≡ asked.Nothing → entriesOf t program attributes ≡ none
+    asked-nothing q = nothing-by (scopeBy (t .programs) (t .names) program) (acceptedIn attributes) scope-same refl (sym q ∙ v-is)
+
+    pub asked-granted : {scope n : ℕ} → v ≡ asked.Of scope n → Granted t program attributes scope n
+    asked-granted q = granted-by (scopeBy (t .programs) (t .names) program) (acceptedIn attributes) scope-same refl (sym q ∙ v-is)
 
 pub few-scopes : (t : Tables) (memory : ℕ) → valid t memory ≡ true → length (t .programs) ≤ 65535
 unfolding valid t1
@@ -163,39 +179,51 @@ few-scopes t memory v = omega (arith, leb-true (length (t .programs)) 16 (among 
 
 -- ---- what it comes to
 
-module _ (o : Option (List Entry)) (status limit : ℕ) (out : List ℕ) where
-  pub list-turned : (x : ℕ) → o ≡ none → x ≡ status → received (Turned x) out ≡ wholeOfList o status limit out
-  unfolding wholeOfList
-  list-turned x e k = rw (e, k) refl
+pub list-turned : {o : Option (List Entry)} {status x : ℕ} (limit : ℕ) (out : List ℕ) → o ≡ none → x ≡ status
+    → received (Turned x) out ≡ wholeOfList o status limit out
+unfolding wholeOfList
+list-turned limit out e k = rw (e, k) refl
 
-  module _ (entries : List Entry) (is : o ≡ some entries) where
-    narrow-by : limit < 4 + longest entries → received TooNarrow out ≡ wholeOfList o status limit out
+pub list-total : (entries : List Entry) (limit : ℕ) {v : Measure} {total : ℕ} → Measured entries limit v → v ≡ Total total
+    → (total ≡ length (bytesOf entries)) × (4 + longest entries ≤ limit)
+list-total entries limit measured q = rw q at measured
+
+module _ {t : Tables} {program attributes : List ℕ} {scope n : ℕ} (g : Granted t program attributes scope n) where
+  abbrev entries : List Entry
+  entries = due t scope (numbers n (drop 2 attributes)) 0
+
+  entries-are : entriesOf t program attributes ≡ some entries
+  unfolding entriesOf
+  entries-are = rw (g .scope-is, g .numbers-are, g .accepted)
+
+  module _ (status limit : ℕ) (out : List ℕ) where
+    abbrev whole : Received
+    whole = wholeOfList (entriesOf t program attributes) status limit out
+
+    narrow-by : limit < 4 + longest entries → received TooNarrow out ≡ whole
     unfolding wholeOfList
-    narrow-by h = rw (is, lt-ltb limit (4 + longest entries) h) refl
+    narrow-by h = rw (entries-are, lt-ltb limit (4 + longest entries) h) refl
 
-    pub list-tiny : limit < 4 → received TooNarrow out ≡ wholeOfList o status limit out
+    pub list-tiny : limit < 4 → received TooNarrow out ≡ whole
     list-tiny h = narrow-by (omega arith)
 
-    module _ (v : Measure) (measured : Measured entries limit v) where
-      pub list-narrow : v ≡ Narrow → received TooNarrow out ≡ wholeOfList o status limit out
+    module _ {v : Measure} (measured : Measured entries limit v) where
+      pub list-narrow : v ≡ Narrow → received TooNarrow out ≡ whole
       list-narrow q = narrow-by (rw q at measured)
 
-      module _ (total : ℕ) (q : v ≡ Total total) where
-        pub list-total : (total ≡ length (bytesOf entries)) × (4 + longest entries ≤ limit)
-        list-total = rw q at measured
-
-        pub list-short : length out < total → received (TooShort total) out ≡ wholeOfList o status limit out
+      module _ {total : ℕ} (q : v ≡ Total total) where
+        pub list-short : length out < total → received (TooShort total) out ≡ whole
         unfolding wholeOfList
         list-short h =
-            let a = list-total in
-            rw (is, le-ltb limit (4 + longest entries) (a .1), ← a .0, lt-ltb (length out) total h) refl
+            let a = list-total entries limit measured q in
+            rw (entries-are, le-ltb limit (4 + longest entries) (a .1), ← a .0, lt-ltb (length out) total h) refl
 
-        pub list-joined : (r : ℕ) (filled : List ℕ) → total ≤ length out → Written 0 (bytesOf entries) out r filled
-            → received (Joined r) filled ≡ wholeOfList o status limit out
+        pub list-joined : {r : ℕ} {filled : List ℕ} → total ≤ length out → Written 0 (bytesOf entries) out r filled
+            → received (Joined r) filled ≡ whole
         unfolding wholeOfList
-        list-joined r filled h w =
-            let a = list-total in
-            rw (is, w .buffer-is, w .length-is, le-ltb limit (4 + longest entries) (a .1), le-ltb (length out) (length (bytesOf entries)) (omega (arith, a .0))) refl
+        list-joined h w =
+            let a = list-total entries limit measured q in
+            rw (entries-are, w .buffer-is, w .length-is, le-ltb limit (4 + longest entries) (a .1), le-ltb (length out) (length (bytesOf entries)) (omega (arith, a .0))) refl
 
 -- an askable list is not turned away before anything is asked for
 module _ {t : Tables} (f : Flags) {memory program attributes : List ℕ} {limit buffer : ℕ} (out : List ℕ) (v : Received)

@@ -263,6 +263,11 @@ pub turn-askable : {t : Tables} {m program attributes : List ℕ} {limit buffer 
     → Askable t m program attributes limit buffer → memory ≡ m → b ≡ buffer → Askable t memory program attributes limit b
 turn-askable memory b a same e = rw (same, e) a
 
+-- a request's list of attributes is short, so its numbers are few
+pub few-numbers : {t : Tables} {m program attributes : List ℕ} {limit buffer scope n : ℕ}
+    → Askable t m program attributes limit buffer → Granted t program attributes scope n → n ≤ 65535
+few-numbers {program} {attributes} a g = omega (arith, g .list-fits, askable-short program attributes (a .askable) .1)
+
 pub some-tables : (structures members programs tags others : List Row) (names tagNames templates : List ℕ) (memory : ℕ)
     → valid (tablesOf structures members programs tags others names tagNames templates) memory ≡ true → SomeValid structures tags others names tagNames
 some-tables structures members programs tags others names tagNames templates memory v =

@@ -22,6 +22,8 @@ use Rattle.listing.specs.declared.attributes.Count.{Count}
 use Rattle.listing.specs.declared.attributes.Count.the-variants.{Of, Missing}
 use Rattle.pallet.specs.declared.lists.Scope.{Scope}
 use Rattle.pallet.specs.declared.lists.Scope.the-variants.{In, Unknown}
+use Rattle.pallet.specs.declared.lists.Asked.{Asked}
+use Rattle.pallet.specs.declared.lists.Asked.the-variants as asked
 use Rattle.pallet.specs.declared.walks.Measure.{Measure}
 use Rattle.pallet.specs.declared.walks.Measure.the-variants.{Total, Narrow}
 use Rattle.pallet.specs.declared.walks.Start.{Start}
@@ -46,6 +48,12 @@ acceptedBy attributes (Of n) = pick (every isListed (numbers n (drop 2 attribute
 
 unfoldable pub acceptedIn : (attributes : List ℕ) → Count
 acceptedIn attributes = acceptedBy attributes (countIn attributes)
+
+-- both of them, or nothing is granted
+abbrev pub askedBy : (scope : Option ℕ) → Count → Asked
+askedBy none accepted = asked.Nothing
+askedBy (some scope) Missing = asked.Nothing
+askedBy (some scope) (Of n) = asked.Of scope n
 
 -- ---- a page that the entry takes, and one that is granted
 

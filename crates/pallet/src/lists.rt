@@ -13,12 +13,18 @@ ghost use lib.ListN.{length};
 ghost use Rattle.model.specs.Tables.{tablesOf, flagsOf};
 ghost use Rattle.pallet.specs.Whole.{received};
 ghost use Rattle.pallet.specs.Lists.{entriesOf, firstPage, wholeOfList, wholeList};
-ghost use Rattle.pallet.specs.Turns.{inScope, scopeBy, acceptedIn, Askable};
+ghost use Rattle.pallet.specs.Turns.{inScope, scopeBy, acceptedIn, askedBy, Askable, Granted};
 
 /// A scope: 0 is the controller's, a program's is its position plus one.
 enum Scope {
     In(u32),
     Unknown,
+}
+
+/// The scope and the number of attributes that a page accepts; nothing where it turns one of them away.
+enum Asked {
+    Of(u32, usize),
+    Nothing,
 }
 
 /// The scope that a program's name means; no name means the controller's.
@@ -52,7 +58,85 @@ fn accepted(attributes: &[u8]) -> Count
     Count::Missing
 }
 
-/// A whole list that the entry takes.
+/// What a page accepts of a program's name and a list of attributes.
+fn asked_of(programs: &[[u32; 2]], names: &[u8], program: &[u8], attributes: &[u8]) -> Asked
+    requires { ⌜ length (now programs) ≤ 65535 ⌝ }
+    ensures { λ r. ⌜ r ≡ askedBy (scopeBy (now (programs .entry)) (now (names .entry)) (now (program .entry))) (acceptedIn (now (attributes .entry))) ⌝ }
+{
+    let Scope::In(scope) = scope_of(programs, names, program) else {
+        return Asked::Nothing;
+    };
+    let Count::Of(n) = accepted(attributes) else {
+        return Asked::Nothing;
+    };
+    Asked::Of(scope, listing::replies::wide16(n))
+}
+
+/// A whole list whose pages are granted. It is measured first, so that `out` stays as it was where it is too short.
+fn list_granted(
+    structures: &[[u32; 10]],
+    members: &[[u32; 9]],
+    programs: &[[u32; 2]],
+    tags: &[[u32; 12]],
+    others: &[[u32; 5]],
+    names: &[u8],
+    tag_names: &[u8],
+    templates: &[u8],
+    flags: Flags,
+    memory: &mut [u8],
+    program: &[u8],
+    attributes: &[u8],
+    limit: usize,
+    buf: &mut [u8],
+    out: &mut [u8],
+    scope: u32,
+    n: usize,
+) -> Whole
+    requires { ⌜ Askable (tablesOf (now structures) (now members) (now programs) (now tags) (now others) (now names) (now «tag_names») (now templates)) (now memory) (now program) (now attributes) limit (length (now buf)) × Granted (tablesOf (now structures) (now members) (now programs) (now tags) (now others) (now names) (now «tag_names») (now templates)) (now program) (now attributes) scope n ⌝ }
+    ensures { λ r. ⌜ (received r (now (out .exit)) ≡ wholeOfList (entriesOf (tablesOf (now (structures .entry)) (now (members .entry)) (now (programs .entry)) (now (tags .entry)) (now (others .entry)) (now (names .entry)) (now («tag_names» .entry)) (now (templates .entry))) (now (program .entry)) (now (attributes .entry))) (firstPage (tablesOf (now (structures .entry)) (now (members .entry)) (now (programs .entry)) (now (tags .entry)) (now (others .entry)) (now (names .entry)) (now («tag_names» .entry)) (now (templates .entry))) (flagsOf flags) (now (memory .entry)) (now (program .entry)) (now (attributes .entry)) limit) limit (now (out .entry))) × (now (memory .exit) ≡ now (memory .entry)) ⌝ }
+{
+    if limit < HEADER {
+        return Whole::TooNarrow;
+    }
+    let Measure::Total(total) = walks::measure_all(
+        structures,
+        tags,
+        others,
+        names,
+        tag_names,
+        scope,
+        attributes,
+        n,
+        limit,
+        buf,
+    ) else {
+        return Whole::TooNarrow;
+    };
+    if out.len() < total {
+        return Whole::TooShort(total);
+    }
+    Whole::Joined(pages::join_pages(
+        structures,
+        members,
+        programs,
+        tags,
+        others,
+        names,
+        tag_names,
+        templates,
+        flags,
+        memory,
+        program,
+        attributes,
+        limit,
+        buf,
+        out,
+        scope,
+        n,
+    ))
+}
+
+/// A whole list that the entry takes. Where no page would be granted, the first one is asked for, to learn its status.
 fn list_askable(
     structures: &[[u32; 10]],
     members: &[[u32; 9]],
@@ -73,7 +157,7 @@ fn list_askable(
     requires { ⌜ Askable (tablesOf (now structures) (now members) (now programs) (now tags) (now others) (now names) (now «tag_names») (now templates)) (now memory) (now program) (now attributes) limit (length (now buf)) ⌝ }
     ensures { λ r. ⌜ (received r (now (out .exit)) ≡ wholeOfList (entriesOf (tablesOf (now (structures .entry)) (now (members .entry)) (now (programs .entry)) (now (tags .entry)) (now (others .entry)) (now (names .entry)) (now («tag_names» .entry)) (now (templates .entry))) (now (program .entry)) (now (attributes .entry))) (firstPage (tablesOf (now (structures .entry)) (now (members .entry)) (now (programs .entry)) (now (tags .entry)) (now (others .entry)) (now (names .entry)) (now («tag_names» .entry)) (now (templates .entry))) (flagsOf flags) (now (memory .entry)) (now (program .entry)) (now (attributes .entry)) limit) limit (now (out .entry))) × (now (memory .exit) ≡ now (memory .entry)) ⌝ }
 {
-    let Scope::In(scope) = scope_of(programs, names, program) else {
+    let Asked::Of(scope, n) = asked_of(programs, names, program, attributes) else {
         return Whole::Turned(pages::first_page(
             structures,
             members,
@@ -91,68 +175,25 @@ fn list_askable(
             buf,
         ));
     };
-    let Count::Of(count) = accepted(attributes) else {
-        return Whole::Turned(pages::first_page(
-            structures,
-            members,
-            programs,
-            tags,
-            others,
-            names,
-            tag_names,
-            templates,
-            flags,
-            memory,
-            program,
-            attributes,
-            limit,
-            buf,
-        ));
-    };
-    let n = listing::replies::wide16(count);
-    if limit < HEADER {
-        return Whole::TooNarrow;
-    }
-    match walks::measure_all(
+    list_granted(
         structures,
+        members,
+        programs,
         tags,
         others,
         names,
         tag_names,
-        scope,
+        templates,
+        flags,
+        memory,
+        program,
         attributes,
-        n,
         limit,
         buf,
-    ) {
-        Measure::Narrow => {
-            return Whole::TooNarrow;
-        }
-        Measure::Total(total) => {
-            if out.len() < total {
-                return Whole::TooShort(total);
-            }
-            return Whole::Joined(pages::join_pages(
-                structures,
-                members,
-                programs,
-                tags,
-                others,
-                names,
-                tag_names,
-                templates,
-                flags,
-                memory,
-                program,
-                attributes,
-                limit,
-                buf,
-                out,
-                scope,
-                n,
-            ));
-        }
-    }
+        out,
+        scope,
+        n,
+    )
 }
 
 /// Lists all symbols of a scope into `out`: asks for pages, each from the last listed ID plus one, and joins their entries until

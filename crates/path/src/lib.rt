@@ -1,7 +1,7 @@
 // Decoding request paths: segments by a table of their first bytes, whole paths, requests, tag paths and program names.
 ghost use mathlib.Core.Path.{_≡_};
 ghost use mathlib.Core.Bool.{true, false};
-ghost use Prim.Native.Nat.{_+_, _*_, _≤_, _<_};
+ghost use Prim.Native.Nat.{_+_, _*_, _≤_};
 ghost use lib.ListN.{length};
 ghost use Rattle.laws.specs.Pick.{isSome};
 ghost use Rattle.definition.specs.Bytes.{part};
@@ -559,38 +559,11 @@ fn same_byte(x: u8, y: u8) -> bool
     lower(x) == lower(y)
 }
 
-/// Whether names of one length differ at a position.
-fn unlike_at(a: &[u8], b: &[u8], i: usize) -> bool
-    requires { ⌜ (length (now a) ≡ length (now b)) × (i < length (now a)) ⌝ }
-    ensures { λ r. ⌜ (r ≡ true → false ≡ sameName (now (a .entry)) (now (b .entry))) ⌝ }
-{
-    !same_byte(a[i], b[i])
-}
-
-/// Whether names of one length differ in the middle or at the end: a plant's names often begin alike and count there, so most comparisons end here.
-fn plainly_unlike(a: &[u8], b: &[u8]) -> bool
+/// Whether names of one length agree, ignoring the case of A to Z.
+fn agree(a: &[u8], b: &[u8]) -> bool
     requires { ⌜ length (now a) ≡ length (now b) ⌝ }
-    ensures { λ r. ⌜ (r ≡ true → false ≡ sameName (now (a .entry)) (now (b .entry))) ⌝ }
-{
-    if a.len() == 0 {
-        return false;
-    }
-    if unlike_at(a, b, a.len() / 2) {
-        return true;
-    }
-    unlike_at(a, b, a.len() - 1)
-}
-
-/// Whether two names agree, ignoring the case of A to Z.
-pub fn same_name(a: &[u8], b: &[u8]) -> bool
     ensures { λ r. ⌜ r ≡ sameName (now (a .entry)) (now (b .entry)) ⌝ }
 {
-    if a.len() != b.len() {
-        return false;
-    }
-    if plainly_unlike(a, b) {
-        return false;
-    }
     let mut i = 0;
     while i < a.len() {
         if same_byte(a[i], b[i]) {
@@ -600,6 +573,20 @@ pub fn same_name(a: &[u8], b: &[u8]) -> bool
         }
     }
     true
+}
+
+/// Whether two names agree, ignoring the case of A to Z. Their second halves are compared first: a plant's names often begin alike and count behind that.
+pub fn same_name(a: &[u8], b: &[u8]) -> bool
+    ensures { λ r. ⌜ r ≡ sameName (now (a .entry)) (now (b .entry)) ⌝ }
+{
+    if a.len() != b.len() {
+        return false;
+    }
+    let middle = a.len() / 2;
+    if agree(&a[middle..], &b[middle..]) {
+        return agree(&a[..middle], &b[..middle]);
+    }
+    false
 }
 
 const PROGRAM_PREFIX: [u8; 8] = *b"program:";
