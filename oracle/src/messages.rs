@@ -106,7 +106,8 @@ impl<'a> Talk<'a> {
             }
             Again::Template { path, offset, wanted } => {
                 let got = reply.len() - 4;
-                let (offset, wanted) = (offset + got as u32, wanted - got as u16);
+                // what was sent may have been changed in a byte, so that more came than was wanted here
+                let (offset, wanted) = (offset + got as u32, wanted.saturating_sub(got as u16));
                 let data = [&offset.to_le_bytes()[..], &wanted.to_le_bytes()].concat();
                 Some((request(0x4C, &path, &data), Again::Template { path, offset, wanted }))
             }
