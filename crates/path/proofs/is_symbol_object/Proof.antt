@@ -1,9 +1,10 @@
+use mathlib.Core.Path.{refl}
 use borrow.Author.Needs.{needs}
 use Rattle.path.proofs.is_symbol_object.Statement.{statement}
 use Rattle.path.proofs.is_symbol_object.Tie as tie
 
 returns : tie.Need-returns
-returns c = cc
+returns c = rw (c .enum-told .given .1) refl
 
 pub is-symbol-object-spec : {M : Type 1} → statement M
 is-symbol-object-spec =

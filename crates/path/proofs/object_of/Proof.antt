@@ -1,9 +1,10 @@
+use mathlib.Core.Path.{refl}
 use borrow.Author.Needs.{needs}
 use Rattle.path.proofs.object_of.Statement.{statement}
 use Rattle.path.proofs.object_of.Tie as tie
 
 returns : tie.Need-returns
-returns c = cc
+returns c = rw (c .before .second .given .1) refl
 
 pub object-of-spec : {M : Type 1} → statement M
 object-of-spec =

@@ -1,9 +1,10 @@
+use mathlib.Core.Path.{refl}
 use borrow.Author.Needs.{needs}
 use Rattle.path.proofs.port_of.Statement.{statement}
 use Rattle.path.proofs.port_of.Tie as tie
 
 returns : tie.Need-returns
-returns c = cc
+returns c = rw (c .before .p .given .1) refl
 
 pub port-of-spec : {M : Type 1} → statement M
 port-of-spec = tie.close (tie.spec (λ c. search needs) (λ c. search needs) returns (λ c. search needs))

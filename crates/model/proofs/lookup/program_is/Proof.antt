@@ -1,9 +1,10 @@
+use mathlib.Core.Path.{refl}
 use borrow.Author.Needs.{needs}
 use Rattle.model.proofs.lookup.program_is.Statement.{statement}
 use Rattle.model.proofs.lookup.program_is.Tie as tie
 
 returns : tie.Need-returns
-returns c = cc
+returns c = rw (c .same-name .ensures, c .before .part-of .ensures) refl
 
 pub program-is-spec : {M : Type 1} → statement M
 program-is-spec =

@@ -1,11 +1,17 @@
-use Rattle.model.specs.Shapes.{shapesOf}
+use denote.Ref.{now}
+use Rattle.definition.specs.Tables.{tagType, tagElements}
+use Rattle.model.specs.Shapes.{shapesOf, listed3, indexed3, lengths3}
+use mathlib.Core.Path.{_≡_, refl}
 use borrow.Author.Needs.{needs}
 use Rattle.model.proofs.shapes.shapes.Statement.{statement}
 use Rattle.model.proofs.shapes.shapes.Tie as tie
 
 returns : tie.Need-returns
 unfolding shapesOf
-returns c = cc
+returns c = let row = now (c .before .before .before .before .before .before .before .args .row) in
+    let first : c .before .listed .result ≡ listed3 (tagType row) (lengths3 row) (tagElements row) = c .before .listed .ensures in
+    let second : c .indexed .result ≡ indexed3 (tagType row) (lengths3 row) (tagElements row) = c .indexed .ensures in
+    rw (← first, ← second) refl
 
 pub shapes-spec : {M : Type 1} → statement M
 shapes-spec =

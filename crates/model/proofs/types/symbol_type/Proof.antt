@@ -1,3 +1,4 @@
+use mathlib.Core.Path.{refl}
 use borrow.Author.Tests.{lt-leb, le-leb}
 use Rattle.definition.specs.Types.{symbolType}
 use borrow.Author.Needs.{needs}
@@ -10,7 +11,7 @@ returns c = rw (lt-leb 256 _ (c .if1 .taken))
 
 returns-2 : tie.Need-returns-2
 unfolding symbolType
-returns-2 c = rw (le-leb 256 _ (c .before .before .if1 .left)) (cc)
+returns-2 c = rw (le-leb 256 _ (c .before .before .if1 .left), c .structure-template .ensures, c .before .index-of .ensures) refl
 
 pub symbol-type-spec : {M : Type 1} → statement M
 symbol-type-spec =

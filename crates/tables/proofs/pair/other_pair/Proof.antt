@@ -1,3 +1,4 @@
+use mathlib.Core.Path.{refl}
 use Rattle.definition.specs.Valid.{idsDiffer}
 use borrow.Author.Needs.{needs}
 use Rattle.tables.proofs.pair.other_pair.Statement.{statement}
@@ -5,7 +6,7 @@ use Rattle.tables.proofs.pair.other_pair.Tie as tie
 
 returns : tie.Need-returns
 unfolding idsDiffer
-returns c = cc
+returns c = rw (c .ids-differ .ensures) refl
 
 pub other-pair-spec : {M : Type 1} → statement M
 other-pair-spec =

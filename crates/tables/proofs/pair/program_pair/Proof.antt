@@ -1,3 +1,4 @@
+use mathlib.Core.Path.{refl}
 use Rattle.definition.specs.Valid.{programNamesDiffer}
 use borrow.Author.Needs.{needs}
 use Rattle.tables.proofs.pair.program_pair.Statement.{statement}
@@ -5,7 +6,7 @@ use Rattle.tables.proofs.pair.program_pair.Tie as tie
 
 returns : tie.Need-returns
 unfolding programNamesDiffer
-returns c = cc
+returns c = rw (c .same-name .ensures, c .before .before .before .before .part-of .ensures, c .before .part-of2 .ensures) refl
 
 pub program-pair-spec : {M : Type 1} → statement M
 program-pair-spec =

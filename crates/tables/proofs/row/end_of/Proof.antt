@@ -1,3 +1,4 @@
+use mathlib.Core.Path.{refl}
 use Rattle.tables.proofs.Laws.{product-fits}
 use native.Mathlib.Omega.{arith}
 use borrow.Author.Needs.{needs}
@@ -11,7 +12,7 @@ add-result : tie.Need-add-result
 add-result c = omega (arith, product-fits _ _ (c .before .long2 .ensures .1) (c .long3 .ensures .1))
 
 returns : tie.Need-returns
-returns c = cc
+returns c = rw (c .before .before .long .ensures .0, c .before .long2 .ensures .0, c .long3 .ensures .0) refl
 
 pub end-of-spec : {M : Type 1} → statement M
 end-of-spec =

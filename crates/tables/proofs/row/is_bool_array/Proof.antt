@@ -1,3 +1,4 @@
+use mathlib.Core.Path.{refl}
 use borrow.Author.Tests.{eq-eqb, ne-eqb}
 use Rattle.laws.proofs.Chain.{chain}
 use borrow.Author.Needs.{needs}
@@ -14,7 +15,7 @@ returns-3 : tie.Need-returns-3
 returns-3 c = search chain
 
 returns-4 : tie.Need-returns-4
-returns-4 c = rw (eq-eqb _ _ (c .before .before .before .before .if1 .left), ne-eqb _ _ (c .before .before .before .if2 .left), eq-eqb _ _ (c .before .before .if3 .left)) (cc)
+returns-4 c = rw (eq-eqb _ _ (c .before .before .before .before .if1 .left), ne-eqb _ _ (c .before .before .before .if2 .left), eq-eqb _ _ (c .before .before .if3 .left), c .before .long .ensures .0, c .long2 .ensures .0) refl
 
 pub is-bool-array-spec : {M : Type 1} → statement M
 is-bool-array-spec =

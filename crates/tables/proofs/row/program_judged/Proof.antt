@@ -1,11 +1,20 @@
-use Rattle.tables.specs.Judged.{programJudged}
+use denote.Ref.{now}
+use mathlib.Core.Path.{_≡_, refl, _∙_, ap₂}
+use mathlib.Core.Bool.{Bool}
+use mathlib.Core.List.{List}
+use Prim.Native.Nat.{ℕ}
+use Rattle.definition.specs.Tables.{Row, field}
+use Rattle.tables.specs.Judged.{nameJudged, programJudged}
 use borrow.Author.Needs.{needs}
 use Rattle.tables.proofs.row.program_judged.Statement.{statement}
 use Rattle.tables.proofs.row.program_judged.Tie as tie
 
-returns : tie.Need-returns
+by-words : (names : List ℕ) (row : Row) (start n : ℕ) {r : Bool} → r ≡ nameJudged names start n → start ≡ field 0 row → n ≡ field 1 row → r ≡ programJudged names row
 unfolding programJudged
-returns c = cc
+by-words names row start n e p q = e ∙ ap₂ (nameJudged names) p q
+
+returns : tie.Need-returns
+returns c = by-words _ (now (c .before .before .before .before .args .row)) _ _ (c .name-judged .ensures) refl refl
 
 pub program-judged-spec : {M : Type 1} → statement M
 program-judged-spec =

@@ -1,9 +1,10 @@
+use mathlib.Core.Path.{refl}
 use borrow.Author.Needs.{needs}
 use Rattle.tables.proofs.row.tag_end.Statement.{statement}
 use Rattle.tables.proofs.row.tag_end.Tie as tie
 
 returns : tie.Need-returns
-returns c = cc
+returns c = rw (c .end-of .ensures, c .before .element-size .ensures) refl
 
 pub tag-end-spec : {M : Type 1} → statement M
 tag-end-spec =
