@@ -1,5 +1,5 @@
 use Rattle.laws.proofs.Chain.{chain}
-use Rattle.tables.specs.Judged.{counts7}
+use Rattle.rows.specs.Judged.{counts7}
 use Rattle.tables.proofs.few_enough.Statement.{statement}
 use Rattle.tables.proofs.few_enough.Tie as tie
 

@@ -3,7 +3,7 @@ use mathlib.Core.Path.{_≡_}
 use lib.ListN.{length, drop}
 use Rattle.laws.specs.Tests.{every}
 use Rattle.laws.proofs.Loops.{everys}
-use Rattle.tables.specs.Judged.{programJudged}
+use Rattle.rows.specs.Judged.{programJudged}
 use borrow.Author.Needs.{needs}
 use Rattle.tables.proofs.programs_judged.Statement.{statement}
 use Rattle.tables.proofs.programs_judged.Tie as tie

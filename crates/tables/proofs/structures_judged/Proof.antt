@@ -3,7 +3,7 @@ use mathlib.Core.Path.{_≡_}
 use lib.ListN.{length, drop}
 use Rattle.laws.specs.Tests.{everyFrom}
 use Rattle.laws.proofs.Loops.{froms}
-use Rattle.tables.specs.Judged.{structureJudged}
+use Rattle.rows.specs.Judged.{structureJudged}
 use borrow.Author.Needs.{needs}
 use Rattle.tables.proofs.structures_judged.Statement.{statement}
 use Rattle.tables.proofs.structures_judged.Tie as tie

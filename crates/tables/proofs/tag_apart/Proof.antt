@@ -4,7 +4,7 @@ use lib.ListN.{length, drop, getD}
 use mathlib.Core.List.{[]}
 use Rattle.laws.specs.Tests.{every}
 use Rattle.laws.proofs.Loops.{afters}
-use Rattle.tables.specs.Judged.{tagPair}
+use Rattle.rows.specs.Judged.{tagPair}
 use borrow.Author.Needs.{needs}
 use Rattle.tables.proofs.tag_apart.Statement.{statement}
 use Rattle.tables.proofs.tag_apart.Tie as tie

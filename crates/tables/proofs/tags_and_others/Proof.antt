@@ -3,7 +3,7 @@ use mathlib.Core.Path.{_≡_}
 use lib.ListN.{length, drop}
 use Rattle.laws.specs.Tests.{every}
 use Rattle.laws.proofs.Loops.{everys}
-use Rattle.tables.specs.Judged.{tagOther}
+use Rattle.rows.specs.Judged.{tagOther}
 use borrow.Author.Needs.{needs}
 use Rattle.tables.proofs.tags_and_others.Statement.{statement}
 use Rattle.tables.proofs.tags_and_others.Tie as tie

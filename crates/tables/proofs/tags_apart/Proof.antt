@@ -3,7 +3,7 @@ use mathlib.Core.Path.{_≡_}
 use lib.ListN.{length, drop}
 use Rattle.laws.specs.Tests.{pairs}
 use Rattle.laws.proofs.Loops.{pair-loops}
-use Rattle.tables.specs.Judged.{tagPair}
+use Rattle.rows.specs.Judged.{tagPair}
 use borrow.Author.Needs.{needs}
 use Rattle.tables.proofs.tags_apart.Statement.{statement}
 use Rattle.tables.proofs.tags_apart.Tie as tie

@@ -1,6 +1,6 @@
 use Rattle.laws.proofs.Chain.{refusals}
-use Rattle.tables.proofs.Regrouped.{judged-is-valid}
-use Rattle.tables.specs.Judged.{judged}
+use Rattle.rows.proofs.Regrouped.{judged-is-valid}
+use Rattle.rows.specs.Judged.{judged}
 use borrow.Author.Needs.{needs}
 use Rattle.tables.proofs.valid.Statement.{statement}
 use Rattle.tables.proofs.valid.Tie as tie

@@ -1,0 +1,26 @@
+use Rattle.laws.proofs.Chain.{eithers, tests}
+use Rattle.definition.specs.Valid.{apart}
+use borrow.Author.Needs.{needs}
+use Rattle.rows.proofs.pair.bytes_apart.Statement.{statement}
+use Rattle.rows.proofs.pair.bytes_apart.Tie as tie
+
+returns : tie.Need-returns
+unfolding apart
+returns c = rw (← c .before .before .before .tag-end .ensures, ← c .before .long .ensures) (search (eithers, tests))
+
+returns-2 : tie.Need-returns-2
+unfolding apart
+returns-2 c = rw (← c .before .before .before .before .before .before .tag-end .ensures, ← c .before .before .tag-end2 .ensures, ← c .before .before .before .before .long .ensures, ← c .long2 .ensures) (search (eithers, tests))
+
+pub bytes-apart-spec : {M : Type 1} → statement M
+bytes-apart-spec =
+    tie.close
+    (tie.spec
+    (λ c κs. search needs)
+    (λ c. search needs)
+    (λ c κs. search needs)
+    returns
+    (λ c κs. search needs)
+    (λ c. search needs)
+    (λ c κs. search needs)
+    returns-2)

@@ -1,0 +1,23 @@
+use mathlib.Core.Path.{refl}
+use borrow.Author.Tests.{eq-eqb, ne-eqb}
+use Rattle.laws.proofs.Chain.{chain}
+use borrow.Author.Needs.{needs}
+use Rattle.rows.proofs.row.is_bool_array.Statement.{statement}
+use Rattle.rows.proofs.row.is_bool_array.Tie as tie
+
+returns : tie.Need-returns
+returns c = search chain
+
+returns-2 : tie.Need-returns-2
+returns-2 c = search chain
+
+returns-3 : tie.Need-returns-3
+returns-3 c = search chain
+
+returns-4 : tie.Need-returns-4
+returns-4 c = rw (eq-eqb _ _ (c .before .before .before .before .if1 .left), ne-eqb _ _ (c .before .before .before .if2 .left), eq-eqb _ _ (c .before .before .if3 .left), c .before .long .ensures .0, c .long2 .ensures .0) refl
+
+pub is-bool-array-spec : {M : Type 1} → statement M
+is-bool-array-spec =
+    tie.close
+    (tie.spec returns returns-2 returns-3 (λ c κs. search needs) (λ c. search needs) (λ c κs. search needs) returns-4)

@@ -1,0 +1,46 @@
+use Prim.Native.Nat.{_*_, _<_}
+use mathlib.Core.Path.{refl, sym}
+use borrow.Author.Tests.{eq-eqb, ne-eqb}
+use Rattle.rows.proofs.Laws.{product-fits, too-large}
+use native.Mathlib.Omega.{arith}
+use borrow.Author.Needs.{needs}
+use Rattle.rows.proofs.row.is_product.Statement.{statement}
+use Rattle.rows.proofs.row.is_product.Tie as tie
+
+returns : tie.Need-returns
+returns c = rw (eq-eqb _ _ (c .if1 .taken))
+
+returns-2 : tie.Need-returns-2
+returns-2 c = rw (ne-eqb _ _ (c .before .if1 .left), eq-eqb _ _ (c .if2 .taken))
+
+mul-two : tie.Need-mul-two
+mul-two c = omega (arith, product-fits _ _ (c .before .long .ensures .1) (c .long2 .ensures .1))
+
+returns-3 : tie.Need-returns-3
+returns-3 c = rw (ne-eqb _ _ (c .before .before .before .before .before .if1 .left), ne-eqb _ _ (c .before .before .before .before .if2 .left), eq-eqb _ _ (c .before .if3 .taken), c .before .before .before .long .ensures .0, c .before .before .long2 .ensures .0, c .long3 .ensures .0) refl
+
+returns-4 : tie.Need-returns-4
+returns-4 c = let h : 4294967295 < c .before .before .before .long .result * c .before .before .long2 .result = omega arith in rw (ne-eqb _ _ (c .before .before .before .before .before .if1 .left), ne-eqb _ _ (c .before .before .before .before .if2 .left), ne-eqb _ _ (c .before .if3 .left), ← c .before .before .before .long .ensures .0, ← c .before .before .long2 .ensures .0) (sym (too-large _ _ _ (omega arith) h (c .before .if3 .left)))
+
+mul-result : tie.Need-mul-result
+mul-result c = let h : c .before .before .before .before .before .long .result * c .before .before .before .before .long2 .result < 4294967296 = omega arith in omega (arith, product-fits _ _ h (c .long5 .ensures .1))
+
+returns-5 : tie.Need-returns-5
+returns-5 c = rw (ne-eqb _ _ (c .before .before .before .before .before .before .before .if1 .left), ne-eqb _ _ (c .before .before .before .before .before .before .if2 .left), ne-eqb _ _ (c .before .before .before .if3 .left), c .before .before .before .before .before .long .ensures .0, c .before .before .before .before .long2 .ensures .0, c .before .long4 .ensures .0, c .long5 .ensures .0) refl
+
+pub is-product-spec : {M : Type 1} → statement M
+is-product-spec =
+    tie.close
+    (tie.spec
+    returns
+    returns-2
+    (λ c κs. search needs)
+    (λ c κs. search needs)
+    mul-two
+    (λ c κs. search needs)
+    returns-3
+    returns-4
+    (λ c κs. search needs)
+    (λ c κs. search needs)
+    mul-result
+    returns-5)

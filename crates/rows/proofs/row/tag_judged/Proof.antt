@@ -1,0 +1,55 @@
+use Rattle.laws.proofs.Chain.{refusals}
+use Rattle.rows.specs.Judged.{tagJudged}
+use borrow.Author.Needs.{needs}
+use Rattle.rows.proofs.row.tag_judged.Statement.{statement}
+use Rattle.rows.proofs.row.tag_judged.Tie as tie
+
+returns : tie.Need-returns
+unfolding tagJudged
+returns c = search refusals depth 12
+
+returns-2 : tie.Need-returns-2
+unfolding tagJudged
+returns-2 c = search refusals depth 12
+
+returns-3 : tie.Need-returns-3
+unfolding tagJudged
+returns-3 c = search refusals depth 12
+
+returns-4 : tie.Need-returns-4
+unfolding tagJudged
+returns-4 c = search refusals depth 12
+
+returns-5 : tie.Need-returns-5
+unfolding tagJudged
+returns-5 c = search refusals depth 12
+
+returns-6 : tie.Need-returns-6
+unfolding tagJudged
+returns-6 c = search refusals depth 12
+
+returns-7 : tie.Need-returns-7
+unfolding tagJudged
+returns-7 c = rw (c .tag-end .ensures) (search refusals depth 12)
+
+pub tag-judged-spec : {M : Type 1} → statement M
+tag-judged-spec =
+    tie.close
+    (tie.spec
+    (λ c. search needs)
+    (λ c κs. search needs)
+    returns
+    (λ c. search needs)
+    (λ c. search needs)
+    (λ c κs. search needs)
+    returns-2
+    (λ c. search needs)
+    returns-3
+    (λ c. search needs)
+    returns-4
+    (λ c. search needs)
+    returns-5
+    (λ c κs. search needs)
+    returns-6
+    (λ c κs. search needs)
+    returns-7)

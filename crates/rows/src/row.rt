@@ -1,0 +1,349 @@
+// The tests of one row: its encoding, its name, its fields.
+ghost use mathlib.Core.Path.{_≡_};
+ghost use Prim.Native.Nat.{_+_, _*_, _≤_, _<_, max};
+ghost use lib.Dec.{leb, eqb};
+ghost use lib.ListN.{length};
+ghost use Rattle.laws.specs.Pick.{both};
+ghost use Rattle.laws.specs.Tests.{every};
+ghost use Rattle.definition.specs.Tables.{firstMember, memberCount};
+ghost use Rattle.definition.specs.Valid.{isName, isType, memberFits, structureFits, tagFits, endIn};
+ghost use Rattle.rows.specs.Judged.{nameJudged, structureNamed, structureJudged, memberJudged, programJudged, tagJudged, otherJudged, zerosLast3, product3, boolArray3};
+
+const FIRST_STRUCTURE: u32 = 0x100;
+
+const DWORD: u32 = 0xD3;
+
+const NO_BIT: u32 = 8;
+
+fn is_printable(b: u8) -> bool
+    ensures { λ r. ⌜ r ≡ both (leb 0x20 b) (leb b 0x7E) ⌝ }
+{
+    if b < 0x20 {
+        return false;
+    }
+    b <= 0x7E
+}
+
+/// 1 to 40 bytes 0x20 to 0x7E.
+pub fn is_name(name: &[u8]) -> bool
+    ensures { λ r. ⌜ r ≡ isName (now (name .entry)) ⌝ }
+{
+    if name.len() == 0 {
+        return false;
+    }
+    if name.len() > 40 {
+        return false;
+    }
+    let mut i = 0;
+    while i < name.len() {
+        if is_printable(name[i]) {
+            i += 1;
+        } else {
+            return false;
+        }
+    }
+    true
+}
+
+fn wide(x: u32) -> usize
+    ensures { λ r. ⌜ r ≡ x ⌝ }
+{
+    x as usize
+}
+
+fn long(x: u32) -> u64
+    ensures { λ r. ⌜ (r ≡ x) × (r < 4294967296) ⌝ }
+{
+    x as u64
+}
+
+/// A name that stands in its store and is one.
+pub fn name_judged(store: &[u8], start: u32, n: u32) -> bool
+    ensures { λ r. ⌜ r ≡ nameJudged (now (store .entry)) start n ⌝ }
+{
+    let a = wide(start);
+    let e = a + wide(n);
+    if e > store.len() {
+        return false;
+    }
+    is_name(&store[a..e])
+}
+
+/// An atomic code, or a structure below an index.
+pub fn is_type(bound: usize, ty: u32) -> bool
+    ensures { λ r. ⌜ r ≡ isType bound ty ⌝ }
+{
+    if ty < FIRST_STRUCTURE {
+        return 0 < model::types::atomic_size(ty);
+    }
+    wide(ty - FIRST_STRUCTURE) < bound
+}
+
+/// `start` plus `n` times `size`, which fits 64 bits.
+fn end_of(start: u32, n: u32, size: u32) -> u64
+    ensures { λ r. ⌜ r ≡ start + n * size ⌝ }
+{
+    long(start) + long(n) * long(size)
+}
+
+fn at_least_one(n: u32) -> u32
+    ensures { λ r. ⌜ r ≡ max 1 n ⌝ }
+{
+    if n < 1 { 1 } else { n }
+}
+
+/// A member of structure i, which has `size` bytes.
+fn member_fits(row: &[u32; 9], structures: &[[u32; 10]], i: usize, size: u32) -> bool
+    ensures { λ r. ⌜ r ≡ memberFits (now (structures .entry)) i size (now (row .entry)) ⌝ }
+{
+    if !is_type(i, row[2]) {
+        return false;
+    }
+    let bytes = model::types::element_size(structures, row[2]);
+    if end_of(row[4], bytes, at_least_one(row[3])) > long(size) {
+        return false;
+    }
+    row[5] <= NO_BIT
+}
+
+fn members_fit(members: &[[u32; 9]], structures: &[[u32; 10]], i: usize, size: u32) -> bool
+    ensures { λ r. ⌜ r ≡ every (memberFits (now (structures .entry)) i size) (now (members .entry)) ⌝ }
+{
+    let mut j = 0;
+    while j < members.len() {
+        if member_fits(&members[j], structures, i, size) {
+            j += 1;
+        } else {
+            return false;
+        }
+    }
+    true
+}
+
+fn fits16(x: u32) -> bool
+    ensures { λ r. ⌜ r ≡ leb x 65535 ⌝ }
+{
+    x <= 65535
+}
+
+/// A sum of two words is at most a length.
+fn within(a: u32, b: u32, n: usize) -> bool
+    ensures { λ r. ⌜ r ≡ leb (a + b) n ⌝ }
+{
+    wide(a) + wide(b) <= n
+}
+
+/// A structure's name, its numbers' widths and its mark.
+fn structure_named(row: &[u32; 10], names: &[u8]) -> bool
+    ensures { λ r. ⌜ r ≡ structureNamed (now (names .entry)) (now (row .entry)) ⌝ }
+{
+    if !name_judged(names, row[0], row[1]) {
+        return false;
+    }
+    if !fits16(row[2]) {
+        return false;
+    }
+    if !fits16(row[3]) {
+        return false;
+    }
+    row[7] <= 1
+}
+
+/// T4 of the row of structure i, whose members stand in their table.
+fn structure_fits(
+    row: &[u32; 10],
+    structures: &[[u32; 10]],
+    members: &[[u32; 9]],
+    templates: usize,
+    i: usize,
+) -> bool
+    requires { ⌜ firstMember (now row) + memberCount (now row) ≤ length (now members) ⌝ }
+    ensures { λ r. ⌜ r ≡ structureFits (now (structures .entry)) (now (members .entry)) templates i (now (row .entry)) ⌝ }
+{
+    if row[4] == 0 {
+        return false;
+    }
+    if !fits16(row[4]) {
+        return false;
+    }
+    if !within(row[8], row[9], templates) {
+        return false;
+    }
+    let first = wide(row[5]);
+    let end = first + wide(row[6]);
+    members_fit(&members[first..end], structures, i, row[4])
+}
+
+/// The row of structure i.
+pub fn structure_judged(
+    row: &[u32; 10],
+    structures: &[[u32; 10]],
+    members: &[[u32; 9]],
+    names: &[u8],
+    templates: usize,
+    i: usize,
+) -> bool
+    ensures { λ r. ⌜ r ≡ structureJudged (now (structures .entry)) (now (members .entry)) (now (names .entry)) templates i (now (row .entry)) ⌝ }
+{
+    if !structure_named(row, names) {
+        return false;
+    }
+    if !within(row[5], row[6], members.len()) {
+        return false;
+    }
+    structure_fits(row, structures, members, templates, i)
+}
+
+/// A member row by itself.
+pub fn member_judged(row: &[u32; 9], names: &[u8], structures: usize) -> bool
+    ensures { λ r. ⌜ r ≡ memberJudged (now (names .entry)) structures (now (row .entry)) ⌝ }
+{
+    if !name_judged(names, row[0], row[1]) {
+        return false;
+    }
+    if !is_type(structures, row[2]) {
+        return false;
+    }
+    if row[6] > 1 {
+        return false;
+    }
+    if row[7] > 1 {
+        return false;
+    }
+    if row[8] > 3 {
+        return false;
+    }
+    row[5] <= NO_BIT
+}
+
+pub fn program_judged(row: &[u32; 2], names: &[u8]) -> bool
+    ensures { λ r. ⌜ r ≡ programJudged (now (names .entry)) (now (row .entry)) ⌝ }
+{
+    name_judged(names, row[0], row[1])
+}
+
+/// Nonzero lengths first, and zeros after.
+fn zeros_last(a: u32, b: u32, c: u32) -> bool
+    ensures { λ r. ⌜ r ≡ zerosLast3 a b c ⌝ }
+{
+    if a == 0 {
+        if b == 0 {
+            return c == 0;
+        }
+        return false;
+    }
+    if b == 0 {
+        return c == 0;
+    }
+    true
+}
+
+/// Whether a number is the product of the nonzero lengths, which may exceed 64 bits.
+fn is_product(elements: u32, a: u32, b: u32, c: u32) -> bool
+    ensures { λ r. ⌜ r ≡ eqb elements (product3 a b c) ⌝ }
+{
+    if a == 0 {
+        return elements == 1;
+    }
+    if b == 0 {
+        return elements == a;
+    }
+    let two = long(a) * long(b);
+    if c == 0 {
+        return long(elements) == two;
+    }
+    if two > 4294967295 {
+        return false;
+    }
+    long(elements) == two * long(c)
+}
+
+/// A DWORD tag with one length 32k may have k elements.
+fn is_bool_array(ty: u32, a: u32, b: u32, elements: u32) -> bool
+    ensures { λ r. ⌜ r ≡ boolArray3 ty a b elements ⌝ }
+{
+    if ty != DWORD {
+        return false;
+    }
+    if a == 0 {
+        return false;
+    }
+    if b != 0 {
+        return false;
+    }
+    long(elements) * 32 == long(a)
+}
+
+/// T5 of a tag row.
+fn tag_fits(row: &[u32; 12], structures: usize) -> bool
+    ensures { λ r. ⌜ r ≡ tagFits structures (now (row .entry)) ⌝ }
+{
+    if !is_type(structures, row[4]) {
+        return false;
+    }
+    if !zeros_last(row[5], row[6], row[7]) {
+        return false;
+    }
+    if is_product(row[8], row[5], row[6], row[7]) {
+        return true;
+    }
+    is_bool_array(row[4], row[5], row[6], row[8])
+}
+
+/// Where a tag's bytes end.
+pub fn tag_end(row: &[u32; 12], structures: &[[u32; 10]]) -> u64
+    ensures { λ r. ⌜ r ≡ endIn (now (structures .entry)) (now (row .entry)) ⌝ }
+{
+    end_of(
+        row[11],
+        row[8],
+        model::types::element_size(structures, row[4]),
+    )
+}
+
+/// A tag row by itself.
+pub fn tag_judged(
+    row: &[u32; 12],
+    structures: &[[u32; 10]],
+    tag_names: &[u8],
+    programs: usize,
+    memory: usize,
+) -> bool
+    ensures { λ r. ⌜ r ≡ tagJudged (now (structures .entry)) (now («tag_names» .entry)) programs memory (now (row .entry)) ⌝ }
+{
+    if wide(row[0]) > programs {
+        return false;
+    }
+    if !name_judged(tag_names, row[1], row[2]) {
+        return false;
+    }
+    if row[10] > 1 {
+        return false;
+    }
+    if row[9] > 3 {
+        return false;
+    }
+    if row[3] == 0 {
+        return false;
+    }
+    if !tag_fits(row, structures.len()) {
+        return false;
+    }
+    tag_end(row, structures) <= memory as u64
+}
+
+/// Another symbol's row by itself.
+pub fn other_judged(row: &[u32; 5], names: &[u8], programs: usize) -> bool
+    ensures { λ r. ⌜ r ≡ otherJudged (now (names .entry)) programs (now (row .entry)) ⌝ }
+{
+    if wide(row[0]) > programs {
+        return false;
+    }
+    if !name_judged(names, row[1], row[2]) {
+        return false;
+    }
+    if !fits16(row[4]) {
+        return false;
+    }
+    row[3] != 0
+}

@@ -1,0 +1,11 @@
+use denote.Ref.{now}
+use Rattle.spread.proofs.Keyed.{bytes-far}
+use borrow.Author.Needs.{needs}
+use Rattle.spread.proofs.sure.bytes_apart.Statement.{statement}
+use Rattle.spread.proofs.sure.bytes_apart.Tie as tie
+
+returns : tie.Need-returns
+returns c = λ e. bytes-far (now (c .before .before .before .before .before .before .args .structures)) _ (c .before .before .before .byte-spans .last .1 .1 .0) (c .before .before .before .byte-spans .last .1 .1 .1 .0) (c .before .before .before .byte-spans .ensures .0) (c .before .before .before .byte-spans .ensures .1) (c .spread .ensures e)
+
+pub bytes-apart-spec : {M : Type 1} → statement M
+bytes-apart-spec = tie.close (tie.spec (λ c κs. search needs) (λ c κs. search needs) returns)

@@ -1,0 +1,35 @@
+use mathlib.Core.Path.{refl, ap}
+use Prim.Native.Nat.{_+_, _*_}
+use denote.Ref.{now}
+use Rattle.spread.specs.Keys.{tagFirst, tagLast, otherFirst}
+use Rattle.spread.proofs.Keyed.{as-tag, as-other}
+use borrow.Author.Needs.{needs}
+use Rattle.spread.proofs.sure.name_span.Statement.{statement}
+use Rattle.spread.proofs.sure.name_span.Tie as tie
+
+returns : tie.Need-returns
+returns c = (as-tag (tagFirst (now (c .before .before .before .before .before .args .tag-names))) (otherFirst (now (c .before .before .before .before .before .args .names))) _ _ _ _ (c .before .before .if1 .taken) (ap (λ z. 2 * z) (c .tag-key .ensures .0)), as-tag (tagLast (now (c .before .before .before .before .before .args .tag-names))) (otherFirst (now (c .before .before .before .before .before .args .names))) _ _ _ _ (c .before .before .if1 .taken) (ap (λ z. 2 * z + 2) (c .tag-key .ensures .0)))
+
+returns-2 : tie.Need-returns-2
+returns-2 c = (as-other (tagFirst (now (c .before .before .before .before .before .args .tag-names))) (otherFirst (now (c .before .before .before .before .before .args .names))) _ _ _ _ _ (c .before .before .if1 .left) refl (ap (λ z. 2 * z + 1) (c .other-key .ensures .0)), as-other (tagLast (now (c .before .before .before .before .before .args .tag-names))) (otherFirst (now (c .before .before .before .before .before .args .names))) _ _ _ _ _ (c .before .before .if1 .left) refl (ap (λ z. 2 * z + 1) (c .other-key .ensures .0)))
+
+pub name-span-spec : {M : Type 1} → statement M
+name-span-spec =
+    tie.close
+    (tie.spec
+    (λ c. search needs)
+    (λ c. search needs)
+    (λ c κs. search needs)
+    (λ c. search needs)
+    (λ c. search needs)
+    (λ c. search needs)
+    returns
+    (λ c. search needs)
+    (λ c. search needs)
+    (λ c. search needs)
+    (λ c κs. search needs)
+    (λ c. search needs)
+    (λ c. search needs)
+    (λ c. search needs)
+    (λ c. search needs)
+    returns-2)
