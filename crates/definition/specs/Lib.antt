@@ -7,6 +7,8 @@ pub mod Tables
 pub mod Types
 pub mod Lookup
 pub mod Valid
+pub mod Breach
+pub mod Told
 pub mod Resolve
 pub mod Access
 pub mod Fragment

@@ -1,6 +1,7 @@
 pub mod Chain
 pub mod Scan
 pub mod Zip
+pub mod First
 pub mod Fold
 pub mod Table
 pub mod Items

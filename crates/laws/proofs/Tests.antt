@@ -5,8 +5,9 @@ use mathlib.Core.Logic.{_≢_}
 use mathlib.Core.Bool.{Bool, true, false}
 use mathlib.Core.List.{List, [], _∷_, _++_, map}
 use Prim.Native.Nat.{ℕ, zero, suc, _+_, _<_}
+use native.Mathlib.Numerals.{add-one}
 use native.Mathlib.Omega.{arith}
-use lib.ListN.{length, getD}
+use lib.ListN.{length, getD, drop}
 use Rattle.laws.specs.Pick.{pick, both, either, isEmpty}
 use Rattle.laws.specs.Scan.{scan}
 use Rattle.laws.specs.Sorted.{All, Distinct}
@@ -80,6 +81,38 @@ pub Distinct-append : {A : Type 0} (key : A → ℕ) (xs ys : List A) → Distin
 Distinct-append key [] ys d e a = e
 Distinct-append key (x ∷ xs) ys d e a =
     (All-append (λ y. key x ≢ key y) xs ys (d .0) (a .0), Distinct-append key xs ys (d .1) e (a .1))
+
+-- ---- a test of each element, and of each two, by their indexes
+
+pub every-by : {A : Type 0} (p : A → Bool) (d : A) (xs : List A) → ((i : ℕ) → i < length xs → p (getD xs i d) ≡ true) → every p xs ≡ true
+unfolding every
+every-by p d [] f = refl
+every-by p d (x ∷ xs) f = both-on _ _ (f zero (omega arith)) (every-by p d xs (λ i h. f (suc i) (omega arith)))
+
+pub pairs-by : {A : Type 0} (p : A → A → Bool) (d : A) (xs : List A) → ((i j : ℕ) → i < j → j < length xs → p (getD xs i d) (getD xs j d) ≡ true)
+    → pairs p xs ≡ true
+unfolding pairs
+pairs-by p d [] f = refl
+pairs-by p d (x ∷ xs) f =
+    both-on _ _ (every-by (p x) d xs (λ j h. f zero (suc j) (omega arith) (omega arith)))
+    (pairs-by p d xs (λ i j h l. f (suc i) (suc j) (omega arith) (omega arith)))
+
+pub pairs-at : {A : Type 0} (p : A → A → Bool) (d : A) (xs : List A) (i : ℕ) → pairs p xs ≡ true → i < length xs → every (p (getD xs i d)) (drop (suc i) xs) ≡ true
+unfolding pairs
+pairs-at p d [] i e h = absurd (omega arith)
+pairs-at p d (x ∷ xs) zero e h = both-true (every (p x) xs) _ e .0
+pairs-at p d (x ∷ xs) (suc i) e h = pairs-at p d xs i (both-true (every (p x) xs) _ e .1) (omega arith)
+
+unmet : (t e : Bool) → e ≡ false → (t ≡ true → e ≡ true) → t ≡ false
+unmet true e h f = sym (f refl) ∙ h
+unmet false e h f = refl
+
+pub every-broken : {A : Type 0} (p : A → Bool) (d : A) (xs : List A) (i : ℕ) → i < length xs → p (getD xs i d) ≡ false → every p xs ≡ false
+every-broken p d xs i h e = unmet _ _ e (λ t. every-at p d xs i t h)
+
+pub pairs-broken : {A : Type 0} (p : A → A → Bool) (d : A) (xs : List A) (i : ℕ) → i < length xs → every (p (getD xs i d)) (drop (i + 1) xs) ≡ false
+    → pairs p xs ≡ false
+pairs-broken p d xs i h e = unmet _ _ e (λ t. rw add-one (pairs-at p d xs i t h))
 
 -- ---- tests in another order: two tests that hold together are equal
 

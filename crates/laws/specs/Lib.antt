@@ -1,6 +1,7 @@
 pub mod Pick
 pub mod Tests
 pub mod Scan
+pub mod First
 pub mod Zip
 pub mod Fold
 pub mod Items

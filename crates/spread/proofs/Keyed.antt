@@ -18,7 +18,7 @@ use Rattle.laws.specs.Tests.{every, pairs}
 use Rattle.laws.specs.Zip.{agree}
 use Rattle.laws.proofs.Chain.{by-test, clash, both-on}
 use Rattle.laws.proofs.Loops.{not-on}
-use Rattle.laws.proofs.Tests.{both-true, either-true, both-none, every-at}
+use Rattle.laws.proofs.Tests.{both-true, either-true, both-none, every-by, pairs-by, every-broken, pairs-broken}
 use Rattle.definition.specs.Names.{sameName, sameByte, lower}
 use Rattle.definition.specs.Tables.{Row, tagScope, tagName, tagId, tagOffset, otherScope, otherName}
 use Rattle.definition.specs.Valid.{tagNamesDiffer, otherNamesDiffer, programNamesDiffer, idsDiffer, endIn, apart}
@@ -33,38 +33,6 @@ pub filled-next : (f : ℕ → ℕ) (xs ys : List ℕ) (v i j : ℕ) → Filled 
 filled-next f xs ys v i j here h e q t k l =
     by-test (eqb k i) (λ s. rw (e, eqb-true k i s, getD-set-same xs i v 0 h) q)
     (λ s. let z : k ≢ i = eqb-false k i s in rw (e, getD-set-other xs i k v 0 z) (here k (omega arith)))
-
--- ---- tests by index
-
-every-by : {A : Type 0} (p : A → Bool) (d : A) (xs : List A) → ((i : ℕ) → i < length xs → p (getD xs i d) ≡ true) → every p xs ≡ true
-unfolding every
-every-by p d [] f = refl
-every-by p d (x ∷ xs) f = both-on _ _ (f zero (omega arith)) (every-by p d xs (λ i h. f (suc i) (omega arith)))
-
-pairs-by : {A : Type 0} (p : A → A → Bool) (d : A) (xs : List A) → ((i j : ℕ) → i < j → j < length xs → p (getD xs i d) (getD xs j d) ≡ true)
-    → pairs p xs ≡ true
-unfolding pairs
-pairs-by p d [] f = refl
-pairs-by p d (x ∷ xs) f =
-    both-on _ _ (every-by (p x) d xs (λ j h. f zero (suc j) (omega arith) (omega arith)))
-    (pairs-by p d xs (λ i j h l. f (suc i) (suc j) (omega arith) (omega arith)))
-
-pairs-at : {A : Type 0} (p : A → A → Bool) (d : A) (xs : List A) (i : ℕ) → pairs p xs ≡ true → i < length xs → every (p (getD xs i d)) (drop (suc i) xs) ≡ true
-unfolding pairs
-pairs-at p d [] i e h = absurd (omega arith)
-pairs-at p d (x ∷ xs) zero e h = both-true (every (p x) xs) _ e .0
-pairs-at p d (x ∷ xs) (suc i) e h = pairs-at p d xs i (both-true (every (p x) xs) _ e .1) (omega arith)
-
-unmet : (t e : Bool) → e ≡ false → (t ≡ true → e ≡ true) → t ≡ false
-unmet true e h f = sym (f refl) ∙ h
-unmet false e h f = refl
-
-every-fail : {A : Type 0} (p : A → Bool) (d : A) (xs : List A) (i : ℕ) → i < length xs → p (getD xs i d) ≡ false → every p xs ≡ false
-every-fail p d xs i h e = unmet _ _ e (λ t. every-at p d xs i t h)
-
-pairs-fail : {A : Type 0} (p : A → A → Bool) (d : A) (xs : List A) (i : ℕ) → i < length xs → every (p (getD xs i d)) (drop (i + 1) xs) ≡ false
-    → pairs p xs ≡ false
-pairs-fail p d xs i h e = unmet _ _ e (λ t. rw add-one (pairs-at p d xs i t h))
 
 -- three tests of four that are not met
 cut : (a b c d : Bool) → both a (both b c) ≡ false → both a (both b (both c d)) ≡ false
@@ -220,15 +188,15 @@ module _ (structures tags others : List Row) (names tagNames : List ℕ) where
   pub tag-fails : (i : ℕ) (r : Bool) → i < length tags → r ≡ every (tagPair structures tagNames (getD tags i [])) (drop (i + 1) tags) → not r ≡ true
       → symbolsJudged structures tags others names tagNames ≡ false
   unfolding symbolsJudged
-  tag-fails i r h e q = rw (pairs-fail (tagPair structures tagNames) [] tags i h (sym e ∙ not-on r q))
+  tag-fails i r h e q = rw (pairs-broken (tagPair structures tagNames) [] tags i h (sym e ∙ not-on r q))
 
   pub tag-fails-other : (i : ℕ) (r : Bool) → i < length tags → r ≡ every (tagOther tagNames names (getD tags i [])) others → not r ≡ true
       → symbolsJudged structures tags others names tagNames ≡ false
   unfolding symbolsJudged
   tag-fails-other i r h e q =
-      rw (every-fail (λ a. every (tagOther tagNames names a) others) [] tags i h (sym e ∙ not-on r q)) (both-none (pairs (tagPair structures tagNames) tags))
+      rw (every-broken (λ a. every (tagOther tagNames names a) others) [] tags i h (sym e ∙ not-on r q)) (both-none (pairs (tagPair structures tagNames) tags))
 
   pub other-fails : (i : ℕ) (r : Bool) → i < length others → r ≡ every (idsDiffer (getD others i [])) (drop (i + 1) others) → not r ≡ true
       → symbolsJudged structures tags others names tagNames ≡ false
   unfolding symbolsJudged
-  other-fails i r h e q = simp (pairs-fail idsDiffer [] others i h (sym e ∙ not-on r q), both-none)
+  other-fails i r h e q = simp (pairs-broken idsDiffer [] others i h (sym e ∙ not-on r q), both-none)

@@ -1,7 +1,6 @@
 // Whether each two symbols pass the tests of two rows, by sorting: names by a number of each, IDs, and bytes.
 // Where they seem not to, a symbol is named that is worth comparing with each behind it: nothing is proved of which.
 use rows::row;
-
 ghost use mathlib.Core.Path.{_≡_};
 ghost use mathlib.Core.Bool.{true};
 ghost use Prim.Native.Nat.{_+_, _*_, _%_, _≤_, _<_};
