@@ -11,6 +11,7 @@ use lib.Dec.{ltb, leb, eqb}
 use lib.ListN.{length, getD, drop}
 use lib.Seq.{getD-take, getD-drop}
 use borrow.Author.Tests.{ltb-true, leb-true, lt-ltb, eqb-true, eqb-false}
+use Rattle.laws.specs.Pick.{either}
 use Rattle.laws.proofs.Chain.{by-test, pick-all}
 use Rattle.laws.proofs.Tests.{both-true, either-true, every-at, everyFrom-at, not-empty}
 use Rattle.definition.specs.Tables.{Tables, Row, field, structureSize, templateStart, templateLength, structureAt, membersOf, memberType, memberLength, memberOffset, memberBit, noBit, tagType, tagLengths, nonzero, lengthsOf, tagElements}
@@ -30,6 +31,13 @@ type-of-more : (a b type : ℕ) → a ≤ b → isType a type ≡ true → isTyp
 unfolding isType
 type-of-more a b type h e =
     by-test (isStructure type) (λ s. rw s (lt-ltb _ b (omega (arith, structure-in a type s e)))) (λ s. rw s (rw s at e))
+
+-- a type of the table has some bytes, if each structure has
+pub size-some : (structures : List Row) (type : ℕ) → ((i : ℕ) → i < length structures → 0 < structureSize (getD structures i []))
+    → isType (length structures) type ≡ true → 0 < sizeIn structures type
+unfolding isType sizeIn
+size-some structures type sized e =
+    by-test (isStructure type) (λ s. rw s (sized _ (structure-in _ type s e))) (λ s. rw s (ltb-true 0 _ (rw s at e)))
 
 -- ---- array lengths
 
@@ -59,6 +67,10 @@ elements-of-bools r e =
     let some : 0 < length (lengthsOf r) = omega (arith, eqb-true (length (lengthsOf r)) 1 (one .0)) in
     let first : 0 < field 5 r = rw (getD-take 3 (drop 5 r) 0 0 (omega arith), getD-drop 5 r 0 0) at (first-some (tagLengths r) some) in
     (omega (arith, eqb-true (tagElements r * 32) (field 5 r) (one .1)), rw (dword .0, not-empty (lengthsOf r) some) (omega arith))
+
+pub elements-some : (r : Row) → either (eqb (tagElements r) (product (lengthsOf r))) (isBoolArray r) ≡ true → Elements r
+elements-some r e =
+    either-true (eqb (tagElements r) (product (lengthsOf r))) (isBoolArray r) e (λ q. elements-counted r (eqb-true _ _ q)) (elements-of-bools r)
 
 -- ---- the tests of a table set
 
@@ -109,9 +121,7 @@ module _ (t : Tables) (memory : ℕ) (ok : valid t memory ≡ true) where
         (both-true (isType i (memberType member)) _ member-fits .1) .1)
 
   pub element-some : (type : ℕ) → isType (length (t .structures)) type ≡ true → 0 < elementSize t type
-  unfolding isType sizeIn
-  element-some type e =
-      by-test (isStructure type) (λ s. rw s (structure-some _ (structure-in _ type s e))) (λ s. rw s (ltb-true 0 _ (rw s at e)))
+  element-some type e = size-some (t .structures) type structure-some e
 
   -- ---- a tag
 
@@ -134,6 +144,4 @@ module _ (t : Tables) (memory : ℕ) (ok : valid t memory ≡ true) where
     pub tag-elements : Elements row
     unfolding tagFits
     tag-elements =
-        either-true (eqb (tagElements row) (product (lengthsOf row))) (isBoolArray row)
-        (both-true (zerosLast (tagLengths row)) _ (both-true (isType (length (t .structures)) (tagType row)) _ tag-fits .1) .1)
-        (λ e. elements-counted row (eqb-true _ _ e)) (elements-of-bools row)
+        elements-some row (both-true (zerosLast (tagLengths row)) _ (both-true (isType (length (t .structures)) (tagType row)) _ tag-fits .1) .1)

@@ -1,10 +1,13 @@
 pub mod Against
+pub mod Breaches
 pub mod Cut
 pub mod Enters
 pub mod Facts
 pub mod Inside
+pub mod Lengths
 pub mod Listing
 pub mod Replies
+pub mod Saying
 pub mod Selected
 pub mod Stored
 pub mod Theorems

@@ -183,6 +183,10 @@ programRules names =
     ∷ rowRule 202 (λ r. nameBytes (programName names r))
     ∷ []
 
+-- T5: the product of its lengths, or a BOOL array's
+unfoldable pub hasElements : Row → Bool
+hasElements r = either (eqb (tagElements r) (product (lengthsOf r))) (isBoolArray r)
+
 unfoldable pub tagRules : (structures : List Row) (tagNames : List ℕ) (programs memory : ℕ) → List RowRule
 tagRules structures tagNames programs memory =
     rowRule 1 (stored 1 2 (length tagNames))
@@ -194,7 +198,7 @@ tagRules structures tagNames programs memory =
     ∷ rowRule 301 (λ r. ltb 0 (tagId r))
     ∷ rowRule 501 (λ r. isType (length structures) (tagType r))
     ∷ rowRule 502 (λ r. zerosLast (tagLengths r))
-    ∷ rowRule 503 (λ r. either (eqb (tagElements r) (product (lengthsOf r))) (isBoolArray r))
+    ∷ rowRule 503 hasElements
     ∷ rowRule 601 (λ r. leb (endIn structures r) memory)
     ∷ []
 
@@ -210,14 +214,14 @@ otherRules names programs =
 
 -- ---- rows that clash
 
--- all array elements counted, inside its structure
-unfoldable pub isInside : (structures : List Row) → (structure member : Row) → Bool
-isInside structures s r = leb (memberOffset r + sizeIn structures (memberType r) * max 1 (memberLength r)) (structureSize s)
+-- T4: a member, all its array elements counted, ends in so many bytes
+unfoldable pub endsWithin : (structures : List Row) (size : ℕ) → Row → Bool
+endsWithin structures size r = leb (memberOffset r + sizeIn structures (memberType r) * max 1 (memberLength r)) size
 
 unfoldable pub clashes : Tables → List Test
 clashes t =
     memberOf 404 t (λ i s r. isType i (memberType r))
-    ∷ memberOf 405 t (λ i s r. isInside (t .structures) s r)
+    ∷ memberOf 405 t (λ i s r. endsWithin (t .structures) (structureSize s) r)
     ∷ two 203 programsTable (t .programs) (programNamesDiffer (t .names))
     ∷ two 203 tagsTable (t .tags) (tagNamesDiffer (t .tagNames))
     ∷ tagsOthers 203 t (otherNamesDiffer (t .tagNames) (t .names))
@@ -239,15 +243,22 @@ tests t memory =
     ++ map (each othersTable (t .others)) (otherRules (t .names) (length (t .programs)))
     ++ clashes t
 
--- behind the last one: nothing is tested
+-- behind the last one nothing is tested
+abbrev pub noRule : RowRule
+noRule = rowRule 0 (λ r. true)
+
 abbrev pub noTest : Test
-noTest = each noTable [] (rowRule 0 (λ r. true))
+noTest = each noTable [] noRule
 
 abbrev pub testAt : Tables → (memory : ℕ) → ℕ → Test
 testAt t memory n = getD (tests t memory) n noTest
 
+-- what is told of rows i and j
+abbrev pub tell : Test → (i j : ℕ) → Breach
+tell x i j = record { rule = x .rule; table = x .table; row = j; otherTable = x .otherTable; other = i }
+
 abbrev pub toldOf : Test → (i j : ℕ) → Option Breach
-toldOf x i j = pick (x .holds i j) none (some (record { rule = x .rule; table = x .table; row = j; otherTable = x .otherTable; other = i }))
+toldOf x i j = pick (x .holds i j) none (some (tell x i j))
 
 -- row i of the other table, against its rows
 unfoldable pub rowBreach : Test → ℕ → Option Breach

@@ -2,7 +2,8 @@
 -- Assumes nothing.
 use mathlib.Core.Path.{_≡_, refl, sym, _∙_}
 use mathlib.Core.Bool.{Bool, true, false, not}
-use Prim.Native.Nat.{ℕ, _+_, _-_, _<_, _≤_}
+use mathlib.Core.Logic.{_≢_}
+use Prim.Native.Nat.{ℕ, zero, suc, _+_, _-_, _<_, _≤_}
 use native.Mathlib.Omega.{arith}
 use lib.Dec.{ltb, leb, eqb}
 use borrow.Author.Tests.{lt-ltb, le-ltb, le-leb, lt-leb, eq-eqb, ne-eqb, leb-true, eqb-true, eqb-false, not-true, not-false}
@@ -139,3 +140,13 @@ pub some-is : (x : ℕ) → not (eqb x 0) ≡ ltb 0 x
 some-is x = by-test (eqb x 0) (λ t. rw (t, some-no x (eqb-true x 0 t))) (λ t. rw (t, some-yes x (eqb-false x 0 t)))
 
 pub ruleset refusals = (both-kept, both-refused, both-yes, both-no, le-by, gt-by, some-yes, some-no, some-is, lt-ltb, le-ltb, le-leb, lt-leb, eq-eqb, ne-eqb)
+
+-- ---- the last arm of a `match` on a number: none of those before k
+
+abbrev pub Missed : (k n : ℕ) → Type 0
+Missed zero n = Unit {0}
+Missed (suc k) n = Missed k n × (n ≡ k → ⊥)
+
+pub past : (k n : ℕ) → Missed k n → k ≤ n
+past zero n m = omega arith
+past (suc k) n m = let d : n ≢ k = m .1 in omega (arith, past k n (m .0))

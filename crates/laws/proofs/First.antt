@@ -1,15 +1,20 @@
 -- The first of some numbers of which there is something to say: where there is none, where there is one, and the loop that looks for it, whose invariant
 -- is `firstOf f i (e - i) ≡ whole`. Assumes nothing.
 use mathlib.Core.Path.{_≡_, refl, sym, _∙_, ap}
+use mathlib.Core.Bool.{Bool, true, false}
+use mathlib.Core.List.{List}
 use mathlib.Core.Option.{Option, none, some}
 use Prim.Native.Nat.{ℕ, zero, suc, _+_, _-_, _<_, _≤_}
 use native.Mathlib.Omega.{arith}
 use native.Mathlib.Numerals.{add-one}
 use lib.Dec.{eqb}
+use lib.ListN.{length, getD}
 use borrow.Author.Tests.{eqb-true, eqb-false}
 use mathlib.Core.Logic.{_≢_}
 use Rattle.laws.specs.First.{orElse, firstOf}
+use Rattle.laws.specs.Tests.{every}
 use Rattle.laws.proofs.Chain.{by-test, clash}
+use Rattle.laws.proofs.Tests.{equal-tests, every-at, every-by}
 
 or-none : {A : Type 0} (o p : Option A) → orElse o p ≡ none → (o ≡ none) × (p ≡ none)
 or-none none p e = (refl, e)
@@ -59,6 +64,23 @@ module _ {A : Type 0} (f : ℕ → Option A) where
   unfolding firstOf
   first-some at zero a e = clash (cc)
   first-some at (suc n) a e = first-or at n a (f at) refl e (λ q. first-some (suc at) n a q)
+
+-- ---- whether there is nothing to say, of each element of a list
+
+abbrev pub isNone : {A : Type 0} → Option A → Bool
+isNone none = true
+isNone (some a) = false
+
+pub none-is : {A : Type 0} (o : Option A) → isNone o ≡ true → o ≡ none
+none-is none e = refl
+none-is (some a) e = clash (cc)
+
+pub first-every : {A B : Type 0} (g : A → Option B) (d : A) (xs : List A)
+    → isNone (firstOf (λ n. g (getD xs n d)) 0 (length xs)) ≡ every (λ x. isNone (g x)) xs
+first-every g d xs =
+    equal-tests _ _
+    (λ e. every-by _ d xs (λ i h. ap isNone (first-all (λ n. g (getD xs n d)) 0 (length xs) i (none-is _ e) (omega arith) (omega arith))))
+    (λ e. ap isNone (first-none _ 0 (length xs) (λ k h l. none-is _ (every-at (λ x. isNone (g x)) d xs k e (omega arith)))))
 
 -- ---- the loop: nothing to say of the numbers before i
 

@@ -1,18 +1,19 @@
--- What a test that came out true says of its parts and of each element, and what a scan can come to; what holds of each element, through `map` and `++`.
+-- What a test that came out true or false says of its parts and of the elements, what a scan can come to; what holds of each element, by `map` and `++`.
 -- Assumes nothing.
 use mathlib.Core.Path.{_≡_, refl, sym, _∙_}
 use mathlib.Core.Logic.{_≢_}
 use mathlib.Core.Bool.{Bool, true, false}
 use mathlib.Core.List.{List, [], _∷_, _++_, map}
-use Prim.Native.Nat.{ℕ, zero, suc, _+_, _<_}
+use Prim.Native.Nat.{ℕ, zero, suc, _+_, _-_, _≤_, _<_, min}
 use native.Mathlib.Numerals.{add-one}
 use native.Mathlib.Omega.{arith}
-use lib.ListN.{length, getD, drop}
+use lib.ListN.{length, getD, take, drop, length-take, length-drop}
+use lib.Seq.{getD-take, getD-drop}
 use Rattle.laws.specs.Pick.{pick, both, either, isEmpty}
 use Rattle.laws.specs.Scan.{scan}
 use Rattle.laws.specs.Sorted.{All, Distinct}
 use Rattle.laws.specs.Tests.{every, everyFrom, pairs}
-use Rattle.laws.proofs.Chain.{pick-all, both-on, both-off-2}
+use Rattle.laws.proofs.Chain.{pick-all, both-on, both-off-2, by-test, clash}
 
 pub both-true : (t u : Bool) → both t u ≡ true → (t ≡ true) × (u ≡ true)
 both-true true u e = (refl, e)
@@ -21,6 +22,14 @@ both-true false u e = (e, (cc))
 pub either-true : {P : Type 0} (t u : Bool) → either t u ≡ true → (t ≡ true → P) → (u ≡ true → P) → P
 either-true true u e f g = f refl
 either-true false u e f g = g e
+
+pub both-fails : {P : Type 0} (t u : Bool) → both t u ≡ false → (t ≡ false → P) → (u ≡ false → P) → P
+both-fails true u e f g = g e
+both-fails false u e f g = f refl
+
+pub either-fails : (t u : Bool) → either t u ≡ false → (t ≡ false) × (u ≡ false)
+either-fails true u e = clash (cc)
+either-fails false u e = (refl, e)
 
 -- what holds of both answers, each with its test's outcome, holds of the one that is picked
 pub pick-by : {A : Type 0} (P : A → Type 0) (t : Bool) {a b : A} → (t ≡ true → P a) → (t ≡ false → P b) → P (pick t a b)
@@ -76,11 +85,50 @@ pub All-append : {A : Type 0} (P : A → Type 0) (xs ys : List A) → All P xs �
 All-append P [] ys a b = b
 All-append P (x ∷ xs) ys a b = (a .0, All-append P xs ys (a .1) b)
 
+-- a list in two parts
+pub All-parts : {A : Type 0} (P : A → Type 0) (n : ℕ) (xs : List A) → All P (take n xs) → All P (drop n xs) → All P xs
+All-parts P zero xs a b = b
+All-parts P (suc n) [] a b = tt
+All-parts P (suc n) (x ∷ xs) a b = (a .0, All-parts P n xs (a .1) b)
+
 pub Distinct-append : {A : Type 0} (key : A → ℕ) (xs ys : List A) → Distinct key xs → Distinct key ys
     → All (λ x. All (λ y. key x ≢ key y) ys) xs → Distinct key (xs ++ ys)
 Distinct-append key [] ys d e a = e
 Distinct-append key (x ∷ xs) ys d e a =
     (All-append (λ y. key x ≢ key y) xs ys (d .0) (a .0), Distinct-append key xs ys (d .1) e (a .1))
+
+-- ---- what holds at an index; the elements that pass a test, and those before the first that passes it
+
+pub All-at : {A : Type 0} (P : A → Type 0) (d : A) (xs : List A) (n : ℕ) → All P xs → n < length xs → P (getD xs n d)
+All-at P d [] n a h = absurd (omega arith)
+All-at P d (x ∷ xs) zero a h = a .0
+All-at P d (x ∷ xs) (suc n) a h = All-at P d xs n (a .1) (omega arith)
+
+module _ {A : Type 0} (p : A → Bool) where
+  abbrev pub passing : List A → List A
+  passing [] = []
+  passing (x ∷ xs) = pick (p x) (x ∷ passing xs) (passing xs)
+
+  abbrev pub until : List A → List A
+  until [] = []
+  until (x ∷ xs) = pick (p x) [] (x ∷ until xs)
+
+  module _ (P : A → Type 0) where
+    pub All-passing : (xs : List A) → All P xs → All P (passing xs)
+    All-passing [] a = tt
+    All-passing (x ∷ xs) a = pick-all (All P) (p x) (a .0, All-passing xs (a .1)) (All-passing xs (a .1))
+
+    pub passing-at : (d : A) (xs : List A) (n : ℕ) → All P (passing xs) → n < length xs → p (getD xs n d) ≡ true → P (getD xs n d)
+    passing-at d [] n a h e = absurd (omega arith)
+    passing-at d (x ∷ xs) zero a h e = (rw e at a) .0
+    passing-at d (x ∷ xs) (suc n) a h e =
+        by-test (p x) (λ t. passing-at d xs n ((rw t at a) .1) (omega arith) e) (λ t. passing-at d xs n (rw t at a) (omega arith) e)
+
+    pub All-until : (d : A) (xs : List A) (n : ℕ) → p (getD xs n d) ≡ true → ((k : ℕ) → k < n → P (getD xs k d)) → All P (until xs)
+    All-until d [] n e f = tt
+    All-until d (x ∷ xs) zero e f = rw e tt
+    All-until d (x ∷ xs) (suc n) e f =
+        pick-all (All P) (p x) tt (f zero (omega arith), All-until d xs n e (λ k h. f (suc k) (omega arith)))
 
 -- ---- a test of each element, and of each two, by their indexes
 
@@ -103,6 +151,37 @@ pairs-at p d [] i e h = absurd (omega arith)
 pairs-at p d (x ∷ xs) zero e h = both-true (every (p x) xs) _ e .0
 pairs-at p d (x ∷ xs) (suc i) e h = pairs-at p d xs i (both-true (every (p x) xs) _ e .1) (omega arith)
 
+pub pairs-two : {A : Type 0} (p : A → A → Bool) (d : A) (xs : List A) (i j : ℕ) → pairs p xs ≡ true → i < j → j < length xs
+    → p (getD xs i d) (getD xs j d) ≡ true
+pairs-two p d xs i j e h l =
+    let q : suc i + (j - suc i) ≡ j = omega arith in
+    rw (getD-drop, q) at (every-at (p (getD xs i d)) d (drop (suc i) xs) (j - suc i) (pairs-at p d xs i e (omega arith)) (simp length-drop (omega arith)))
+
+pub everyFrom-by : {A : Type 0} (p : ℕ → A → Bool) (d : A) (k : ℕ) (xs : List A)
+    → ((i j : ℕ) → i < length xs → j ≡ k + i → p j (getD xs i d) ≡ true) → everyFrom p k xs ≡ true
+unfolding everyFrom
+everyFrom-by p d k [] f = refl
+everyFrom-by p d k (x ∷ xs) f =
+    both-on _ _ (f zero k (omega arith) (omega arith)) (everyFrom-by p d (suc k) xs (λ i j h q. f (suc i) j (omega arith) (omega arith)))
+
+-- of each element of a part of a list, by the list's indexes
+module _ {A : Type 0} (p : A → Bool) (d : A) (xs : List A) (k n : ℕ) where
+  pub every-part-at : (j : ℕ) → every p (take n (drop k xs)) ≡ true → k ≤ j → j < min (k + n) (length xs) → p (getD xs j d) ≡ true
+  every-part-at j e h l =
+      let q : k + (j - k) ≡ j = omega arith in
+      let i : j - k < n = omega arith in
+      rw (getD-take n (drop k xs) (j - k) d i, getD-drop, q) at (every-at p d (take n (drop k xs)) (j - k) e (simp (length-take, length-drop) (omega arith)))
+
+  pub every-part-by : ((j : ℕ) → k ≤ j → j < min (k + n) (length xs) → p (getD xs j d) ≡ true) → every p (take n (drop k xs)) ≡ true
+  every-part-by f =
+      every-by p d _ (λ i h.
+      let l = simp (length-take, length-drop) at h in
+      let m : i < n = omega arith in
+      rw (getD-take, getD-drop) (f (k + i) (omega arith) (omega arith)))
+
+  pub every-part : every p xs ≡ true → every p (take n (drop k xs)) ≡ true
+  every-part e = every-part-by (λ j h l. every-at p d xs j e (omega arith))
+
 unmet : (t e : Bool) → e ≡ false → (t ≡ true → e ≡ true) → t ≡ false
 unmet true e h f = sym (f refl) ∙ h
 unmet false e h f = refl
@@ -113,6 +192,19 @@ every-broken p d xs i h e = unmet _ _ e (λ t. every-at p d xs i t h)
 pub pairs-broken : {A : Type 0} (p : A → A → Bool) (d : A) (xs : List A) (i : ℕ) → i < length xs → every (p (getD xs i d)) (drop (i + 1) xs) ≡ false
     → pairs p xs ≡ false
 pairs-broken p d xs i h e = unmet _ _ e (λ t. rw add-one (pairs-at p d xs i t h))
+
+-- where a test of each element fails, and at which one
+pub record Fails {A : Type 0} (p : A → Bool) (d : A) (xs : List A) : Type 0 where
+  pub at : ℕ
+  pub inside : at < length xs
+  pub fails : p (getD xs at d) ≡ false
+
+pub every-fails : {A : Type 0} (p : A → Bool) (d : A) (xs : List A) → every p xs ≡ false → Fails p d xs
+unfolding every
+every-fails p d [] e = clash (cc)
+every-fails p d (x ∷ xs) e =
+    both-fails (p x) _ e (λ q. record { at = 0; inside = omega arith; fails = q })
+    (λ q. let r = every-fails p d xs q in record { at = suc (r .at); inside = omega (arith, r .inside); fails = r .fails })
 
 -- ---- tests in another order: two tests that hold together are equal
 
@@ -133,6 +225,12 @@ pub both-assoc : (a b c : Bool) → both (both a b) c ≡ both a (both b c)
 both-assoc true b c = refl
 both-assoc false b c = refl
 
+-- a test that another one implies
+pub both-implied : (a b : Bool) → (b ≡ true → a ≡ true) → both a b ≡ b
+both-implied true b f = refl
+both-implied false true f = f refl
+both-implied false false f = refl
+
 pub swapped : (a b c d : Bool) → both (both a b) (both c d) ≡ both (both a c) (both b d)
 swapped a b c d = equal-tests _ _ (λ e. search regroup) (λ e. search regroup)
 
@@ -140,6 +238,11 @@ pub every-both : {A : Type 0} (p q : A → Bool) (xs : List A) → every (λ x. 
 unfolding every
 every-both p q [] = refl
 every-both p q (x ∷ xs) = rw (every-both p q xs) (swapped (p x) (q x) _ _)
+
+pub every-append : {A : Type 0} (p : A → Bool) (xs ys : List A) → every p (xs ++ ys) ≡ both (every p xs) (every p ys)
+unfolding every
+every-append p [] ys = refl
+every-append p (x ∷ xs) ys = rw (every-append p xs ys) (sym (both-assoc (p x) _ _))
 
 pub from-both : {A : Type 0} (p q : ℕ → A → Bool) (i : ℕ) (xs : List A)
     → everyFrom (λ i x. both (p i x) (q i x)) i xs ≡ both (everyFrom p i xs) (everyFrom q i xs)

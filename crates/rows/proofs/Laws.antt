@@ -4,10 +4,10 @@ use mathlib.Core.Path.{_≡_, refl}
 use mathlib.Core.Logic.{_≢_}
 use mathlib.Core.Bool.{false, not}
 use mathlib.Core.List.{List, [], _∷_}
-use Prim.Native.Nat.{ℕ, _*_, _≤_, _<_}
+use Prim.Native.Nat.{ℕ, _+_, _*_, _≤_, _<_}
 use native.Mathlib.Omega.{arith}
 use native.Mathlib.Nat.{mul-one, mul-assoc, mul-le-mul, le-mul-of-pos-right}
-use lib.Dec.{eqb}
+use lib.Dec.{ltb, leb, eqb}
 use lib.ListN.{length, getD, take, drop}
 use lib.Seq.{getD-drop}
 use borrow.Author.Tests.{ne-eqb}
@@ -15,22 +15,13 @@ use Rattle.laws.specs.Pick.{both, either}
 use Rattle.laws.specs.Tests.{every}
 use Rattle.laws.proofs.Chain.{by-test}
 use Rattle.laws.proofs.Tests.{both-assoc}
-use Rattle.definition.specs.Tables.{Row, field, tagType, tagElements, nonzero}
-use Rattle.definition.specs.Valid.{isType, zerosLast, product, isBoolArray, tagFits}
+use Rattle.definition.specs.Tables.{Row, field, structureSize, templateStart, templateLength, membersIn, tagType, tagLengths, tagElements, nonzero}
+use Rattle.definition.specs.Valid.{isName, memberFits, structureFits, zerosLast, product, isBoolArray}
+use Rattle.definition.specs.Breach.{nameLength, nameBytes, hasElements}
+use Rattle.definition.proofs.Lengths.{three, zeros-three}
 use Rattle.rows.specs.Judged.{zerosLast3, product3, boolArray3}
 
 -- ---- three lengths
-
--- a row that ends earlier has zeros there
-abbrev three : List ℕ → List ℕ
-three ns = getD ns 0 0 ∷ getD ns 1 0 ∷ getD ns 2 0 ∷ []
-
-zeros-three : (ns : List ℕ) → zerosLast (take 3 ns) ≡ zerosLast (three ns)
-unfolding zerosLast every
-zeros-three [] = refl
-zeros-three (a ∷ []) = refl
-zeros-three (a ∷ b ∷ []) = refl
-zeros-three (a ∷ b ∷ c ∷ ns) = refl
 
 nonzero-three : (ns : List ℕ) → nonzero (take 3 ns) ≡ nonzero (three ns)
 nonzero-three [] = refl
@@ -52,12 +43,25 @@ one-length a b c =
     by-test (eqb a 0) (λ t. rw t) (λ t. by-test (eqb b 0) (λ u. simp (t, u)) (λ u. by-test (eqb c 0) (λ v. simp (t, u, v)) (λ v. simp (t, u, v))))
 
 -- T5 of a tag by its numbers
-pub tag-fits : (structures : ℕ) (r : Row) → tagFits structures r
-    ≡ both (isType structures (tagType r)) (both (zerosLast3 (field 5 r) (field 6 r) (field 7 r))
-    (either (eqb (tagElements r) (product3 (field 5 r) (field 6 r) (field 7 r))) (boolArray3 (tagType r) (field 5 r) (field 6 r) (tagElements r))))
-unfolding tagFits isBoolArray
-tag-fits structures r =
-    rw (zeros-three (drop 5 r), nonzero-three (drop 5 r), zeros-last, product-of, one-length, both-assoc) (simp getD-drop)
+pub lengths-three : (r : Row) → zerosLast (tagLengths r) ≡ zerosLast3 (field 5 r) (field 6 r) (field 7 r)
+lengths-three r = rw (zeros-three (drop 5 r), zeros-last) (simp getD-drop)
+
+pub elements-three : (r : Row) → hasElements r
+    ≡ either (eqb (tagElements r) (product3 (field 5 r) (field 6 r) (field 7 r))) (boolArray3 (tagType r) (field 5 r) (field 6 r) (tagElements r))
+unfolding hasElements isBoolArray
+elements-three r = rw (nonzero-three (drop 5 r), product-of, one-length, both-assoc) (simp getD-drop)
+
+-- ---- tests that the code makes in other groups
+
+pub is-name : (name : List ℕ) → isName name ≡ both (nameLength name) (nameBytes name)
+unfolding isName nameLength nameBytes
+is-name name = simp both-assoc
+
+pub structure-fits : (structures members : List Row) (templates i : ℕ) (r : Row) → structureFits structures members templates i r
+    ≡ both (both (ltb 0 (structureSize r)) (leb (structureSize r) 65535))
+    (both (leb (templateStart r + templateLength r) templates) (every (memberFits structures i (structureSize r)) (membersIn members r)))
+unfolding structureFits
+structure-fits structures members templates i r = simp both-assoc
 
 -- ---- products
 

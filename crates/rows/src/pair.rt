@@ -8,7 +8,7 @@ ghost use Rattle.rows.specs.Judged.{tagPair, tagOther};
 use crate::row;
 
 /// Two symbols of one scope have different names.
-fn tag_names_differ(a: &[u32; 12], b: &[u32; 12], tag_names: &[u8]) -> bool
+pub fn tag_names_differ(a: &[u32; 12], b: &[u32; 12], tag_names: &[u8]) -> bool
     ensures { λ r. ⌜ r ≡ tagNamesDiffer (now («tag_names» .entry)) (now (a .entry)) (now (b .entry)) ⌝ }
 {
     if a[0] != b[0] {
@@ -20,7 +20,7 @@ fn tag_names_differ(a: &[u32; 12], b: &[u32; 12], tag_names: &[u8]) -> bool
     )
 }
 
-fn other_names_differ(a: &[u32; 12], b: &[u32; 5], tag_names: &[u8], names: &[u8]) -> bool
+pub fn other_names_differ(a: &[u32; 12], b: &[u32; 5], tag_names: &[u8], names: &[u8]) -> bool
     ensures { λ r. ⌜ r ≡ otherNamesDiffer (now («tag_names» .entry)) (now (names .entry)) (now (a .entry)) (now (b .entry)) ⌝ }
 {
     if a[0] != b[0] {
@@ -33,7 +33,7 @@ fn other_names_differ(a: &[u32; 12], b: &[u32; 5], tag_names: &[u8], names: &[u8
 }
 
 /// Scopes and IDs of two symbols.
-fn ids_differ(scope: u32, id: u32, other_scope: u32, other_id: u32) -> bool
+pub fn ids_differ(scope: u32, id: u32, other_scope: u32, other_id: u32) -> bool
     ensures { λ r. ⌜ r ≡ not (both (eqb scope «other_scope») (eqb id «other_id»)) ⌝ }
 {
     if scope != other_scope {
@@ -43,7 +43,7 @@ fn ids_differ(scope: u32, id: u32, other_scope: u32, other_id: u32) -> bool
 }
 
 /// The bytes of two tags.
-fn bytes_apart(a: &[u32; 12], b: &[u32; 12], structures: &[[u32; 10]]) -> bool
+pub fn bytes_apart(a: &[u32; 12], b: &[u32; 12], structures: &[[u32; 10]]) -> bool
     ensures { λ r. ⌜ r ≡ apart (now (structures .entry)) (now (a .entry)) (now (b .entry)) ⌝ }
 {
     if row::tag_end(a, structures) <= long(b[11]) {

@@ -1,12 +1,13 @@
 // The tests of one row: its encoding, its name, its fields.
 ghost use mathlib.Core.Path.{_≡_};
 ghost use Prim.Native.Nat.{_+_, _*_, _≤_, _<_, max};
-ghost use lib.Dec.{leb, eqb};
+ghost use lib.Dec.{ltb, leb, eqb};
 ghost use lib.ListN.{length};
 ghost use Rattle.laws.specs.Pick.{both};
 ghost use Rattle.laws.specs.Tests.{every};
-ghost use Rattle.definition.specs.Tables.{firstMember, memberCount};
-ghost use Rattle.definition.specs.Valid.{isName, isType, memberFits, structureFits, tagFits, endIn};
+ghost use Rattle.definition.specs.Tables.{firstMember, memberCount, tagLengths};
+ghost use Rattle.definition.specs.Valid.{isName, isType, memberFits, structureFits, zerosLast, tagFits, endIn};
+ghost use Rattle.definition.specs.Breach.{nameLength, nameBytes, hasElements, endsWithin};
 ghost use Rattle.rows.specs.Judged.{nameJudged, structureNamed, structureJudged, memberJudged, programJudged, tagJudged, otherJudged, zerosLast3, product3, boolArray3};
 
 const FIRST_STRUCTURE: u32 = 0x100;
@@ -24,16 +25,20 @@ fn is_printable(b: u8) -> bool
     b <= 0x7E
 }
 
-/// 1 to 40 bytes 0x20 to 0x7E.
-pub fn is_name(name: &[u8]) -> bool
-    ensures { λ r. ⌜ r ≡ isName (now (name .entry)) ⌝ }
+/// 1 to 40 bytes.
+pub fn name_length(name: &[u8]) -> bool
+    ensures { λ r. ⌜ r ≡ nameLength (now (name .entry)) ⌝ }
 {
     if name.len() == 0 {
         return false;
     }
-    if name.len() > 40 {
-        return false;
-    }
+    name.len() <= 40
+}
+
+/// Each byte 0x20 to 0x7E.
+pub fn name_bytes(name: &[u8]) -> bool
+    ensures { λ r. ⌜ r ≡ nameBytes (now (name .entry)) ⌝ }
+{
     let mut i = 0;
     while i < name.len() {
         if is_printable(name[i]) {
@@ -43,6 +48,16 @@ pub fn is_name(name: &[u8]) -> bool
         }
     }
     true
+}
+
+/// 1 to 40 bytes 0x20 to 0x7E.
+pub fn is_name(name: &[u8]) -> bool
+    ensures { λ r. ⌜ r ≡ isName (now (name .entry)) ⌝ }
+{
+    if !name_length(name) {
+        return false;
+    }
+    name_bytes(name)
 }
 
 fn wide(x: u32) -> usize
@@ -92,6 +107,14 @@ fn at_least_one(n: u32) -> u32
     if n < 1 { 1 } else { n }
 }
 
+/// All array elements counted, a member ends in `size` bytes.
+pub fn member_inside(row: &[u32; 9], structures: &[[u32; 10]], size: u32) -> bool
+    ensures { λ r. ⌜ r ≡ endsWithin (now (structures .entry)) size (now (row .entry)) ⌝ }
+{
+    let bytes = model::types::element_size(structures, row[2]);
+    end_of(row[4], bytes, at_least_one(row[3])) <= long(size)
+}
+
 /// A member of structure i, which has `size` bytes.
 fn member_fits(row: &[u32; 9], structures: &[[u32; 10]], i: usize, size: u32) -> bool
     ensures { λ r. ⌜ r ≡ memberFits (now (structures .entry)) i size (now (row .entry)) ⌝ }
@@ -99,8 +122,7 @@ fn member_fits(row: &[u32; 9], structures: &[[u32; 10]], i: usize, size: u32) ->
     if !is_type(i, row[2]) {
         return false;
     }
-    let bytes = model::types::element_size(structures, row[2]);
-    if end_of(row[4], bytes, at_least_one(row[3])) > long(size) {
+    if !member_inside(row, structures, size) {
         return false;
     }
     row[5] <= NO_BIT
@@ -120,17 +142,27 @@ fn members_fit(members: &[[u32; 9]], structures: &[[u32; 10]], i: usize, size: u
     true
 }
 
-fn fits16(x: u32) -> bool
+pub fn fits16(x: u32) -> bool
     ensures { λ r. ⌜ r ≡ leb x 65535 ⌝ }
 {
     x <= 65535
 }
 
 /// A sum of two words is at most a length.
-fn within(a: u32, b: u32, n: usize) -> bool
+pub fn within(a: u32, b: u32, n: usize) -> bool
     ensures { λ r. ⌜ r ≡ leb (a + b) n ⌝ }
 {
     wide(a) + wide(b) <= n
+}
+
+/// 1 to 65,535 bytes.
+pub fn size_fits(size: u32) -> bool
+    ensures { λ r. ⌜ r ≡ both (ltb 0 size) (leb size 65535) ⌝ }
+{
+    if size == 0 {
+        return false;
+    }
+    fits16(size)
 }
 
 /// A structure's name, its numbers' widths and its mark.
@@ -160,10 +192,7 @@ fn structure_fits(
     requires { ⌜ firstMember (now row) + memberCount (now row) ≤ length (now members) ⌝ }
     ensures { λ r. ⌜ r ≡ structureFits (now (structures .entry)) (now (members .entry)) templates i (now (row .entry)) ⌝ }
 {
-    if row[4] == 0 {
-        return false;
-    }
-    if !fits16(row[4]) {
+    if !size_fits(row[4]) {
         return false;
     }
     if !within(row[8], row[9], templates) {
@@ -274,6 +303,23 @@ fn is_bool_array(ty: u32, a: u32, b: u32, elements: u32) -> bool
     long(elements) * 32 == long(a)
 }
 
+/// A tag's nonzero lengths stand first.
+pub fn lengths_first(row: &[u32; 12]) -> bool
+    ensures { λ r. ⌜ r ≡ zerosLast (tagLengths (now (row .entry))) ⌝ }
+{
+    zeros_last(row[5], row[6], row[7])
+}
+
+/// A tag has the product of its lengths in elements, or a BOOL array's.
+pub fn elements_fit(row: &[u32; 12]) -> bool
+    ensures { λ r. ⌜ r ≡ hasElements (now (row .entry)) ⌝ }
+{
+    if is_product(row[8], row[5], row[6], row[7]) {
+        return true;
+    }
+    is_bool_array(row[4], row[5], row[6], row[8])
+}
+
 /// T5 of a tag row.
 fn tag_fits(row: &[u32; 12], structures: usize) -> bool
     ensures { λ r. ⌜ r ≡ tagFits structures (now (row .entry)) ⌝ }
@@ -281,13 +327,10 @@ fn tag_fits(row: &[u32; 12], structures: usize) -> bool
     if !is_type(structures, row[4]) {
         return false;
     }
-    if !zeros_last(row[5], row[6], row[7]) {
+    if !lengths_first(row) {
         return false;
     }
-    if is_product(row[8], row[5], row[6], row[7]) {
-        return true;
-    }
-    is_bool_array(row[4], row[5], row[6], row[8])
+    elements_fit(row)
 }
 
 /// Where a tag's bytes end.
@@ -299,6 +342,13 @@ pub fn tag_end(row: &[u32; 12], structures: &[[u32; 10]]) -> u64
         row[8],
         model::types::element_size(structures, row[4]),
     )
+}
+
+/// A tag's bytes end in a memory of so many.
+pub fn tag_within(row: &[u32; 12], structures: &[[u32; 10]], memory: usize) -> bool
+    ensures { λ r. ⌜ r ≡ leb (endIn (now (structures .entry)) (now (row .entry))) memory ⌝ }
+{
+    tag_end(row, structures) <= memory as u64
 }
 
 /// A tag row by itself.
@@ -329,7 +379,7 @@ pub fn tag_judged(
     if !tag_fits(row, structures.len()) {
         return false;
     }
-    tag_end(row, structures) <= memory as u64
+    tag_within(row, structures, memory)
 }
 
 /// Another symbol's row by itself.

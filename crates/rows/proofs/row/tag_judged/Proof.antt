@@ -30,7 +30,7 @@ returns-6 c = search refusals depth 12
 
 returns-7 : tie.Need-returns-7
 unfolding tagJudged
-returns-7 c = rw (c .tag-end .ensures) (search refusals depth 12)
+returns-7 c = search refusals depth 12
 
 pub tag-judged-spec : {M : Type 1} → statement M
 tag-judged-spec =
