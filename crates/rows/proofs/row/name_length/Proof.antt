@@ -1,16 +1,13 @@
+-- Two tests in the definition's order.
 use Rattle.laws.proofs.Chain.{refusals}
 use Rattle.definition.specs.Breach.{nameLength}
 use Rattle.rows.proofs.row.name_length.Statement.{statement}
 use Rattle.rows.proofs.row.name_length.Tie as tie
-use Rattle.rows.proofs.row.name_length.Reads as reads
-use Rattle.rows.proofs.row.name_length.Lts as lts
 
--- src/row.rt:33:9
 returns : tie.Need-returns
 unfolding nameLength
 returns c = search refusals
 
--- src/row.rt:29:1
 returns-2 : tie.Need-returns-2
 unfolding nameLength
 returns-2 c = search refusals
