@@ -14,7 +14,7 @@ use Rattle.logix.specs.declared.entry.Outcome.the-variants.{Reply, Refused}
 use Rattle.pallet.specs.declared.Whole.{Whole}
 use Rattle.pallet.specs.declared.Whole.the-variants as whole
 use Rattle.pallet.specs.Whole.{received, wholeRead}
-use Rattle.export.specs.Entries.{codeOf, Told, wholeCode, ToldWhole}
+use Rattle.export.specs.Entries.{codeOf, ToldReply, wholeCode, ToldWhole}
 
 says-reply : (n : ℕ) (d : Defined) → Says (Reply n) d → n ≡ codeOf d
 says-reply n (replied bytes) h = h
@@ -31,7 +31,7 @@ module _ (t : Tables) (g f : Flags) (q : g ≡ f) (memory request : List ℕ) (l
 
   module _ (o : Outcome) (new after : List ℕ) (h : Enters (entry t g memory request limit buffer) o new after) where
     abbrev Tells : ℕ → Type 0
-    Tells r = Told (entry t f memory request limit buffer) r new after
+    Tells r = ToldReply (entry t f memory request limit buffer) r new after
 
     told : (r : ℕ) → r ≡ codeOf (entry t g memory request limit buffer .outcome) → Tells r
     told r e = rw (← q) (record { code-is = e; buffer-is = h .buffer-is; memory-is = h .memory-is })

@@ -1,10 +1,12 @@
 -- The C entry points' numbers: flags as bits, and an outcome in 64 bits.
 use mathlib.Core.Path.{_≡_}
-use mathlib.Core.List.{List}
+use mathlib.Core.List.{List, [], _∷_}
+use mathlib.Core.Option.{Option, none, some}
 use Prim.Native.Nat.{ℕ, _+_, _/_, _%_}
 use lib.Dec.{eqb}
 use lib.ListN.{length}
 use Rattle.definition.specs.Tables.{Flags}
+use Rattle.definition.specs.Breach.{Breach}
 use Rattle.definition.specs.Entry.{Outcome, refused, replied, Entered}
 use Rattle.pallet.specs.Whole.{Received}
 use Rattle.pallet.specs.declared.Whole.{Whole}
@@ -24,7 +26,12 @@ abbrev pub codeOf : Outcome → ℕ
 codeOf (replied bytes) = length bytes
 codeOf (refused number) = 0x100000000 + number
 
-pub record Told (e : Entered) (r : ℕ) (buffer memory : List ℕ) : Type 0 where
+-- what is told of broken tables in five words: rule, table, row, the other row's table and the other row; zeros where they are valid
+abbrev pub toldWords : Option Breach → List ℕ
+toldWords none = 0 ∷ 0 ∷ 0 ∷ 0 ∷ 0 ∷ []
+toldWords (some b) = b .rule ∷ b .table ∷ b .row ∷ b .otherTable ∷ b .other ∷ []
+
+pub record ToldReply (e : Entered) (r : ℕ) (buffer memory : List ℕ) : Type 0 where
   pub code-is : r ≡ codeOf (e .outcome)
   pub buffer-is : buffer ≡ e .buffer
   pub memory-is : memory ≡ e .memory

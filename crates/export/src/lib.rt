@@ -3,20 +3,23 @@ use logix::entry::Outcome;
 use logix::entry::Refusal;
 use model::Flags;
 use pallet::Whole;
+use tables::rules::Told;
 ghost use mathlib.Core.Path.{_≡_};
 ghost use mathlib.Core.Bool.{true};
 ghost use Prim.Native.Nat.{_+_, _≤_};
-ghost use lib.ListN.{length};
+ghost use lib.ListN.{length, getD};
 ghost use Rattle.laws.specs.Pick.{pick};
 ghost use Rattle.definition.specs.Reply.{room};
 ghost use Rattle.definition.specs.Valid.{valid};
+ghost use Rattle.definition.specs.Breach.{breach};
 ghost use Rattle.definition.specs.Answer.{answer};
 ghost use Rattle.definition.specs.Entry.{entry};
 ghost use Rattle.model.specs.Tables.{tablesOf, flagsOf};
 ghost use Rattle.services.specs.Answers.{Answers};
 ghost use Rattle.logix.specs.Entering.{numberOf};
 ghost use Rattle.pallet.specs.Whole.{wholeRead};
-ghost use Rattle.export.specs.Entries.{flagsIn, Told, wholeCode, ToldWhole};
+ghost use Rattle.tables.specs.Rules.{toldOf};
+ghost use Rattle.export.specs.Entries.{flagsIn, ToldReply, wholeCode, ToldWhole, toldWords};
 
 /// What a refusal's number is added to: no reply is so long.
 const REFUSED: u64 = 0x1_0000_0000;
@@ -104,6 +107,62 @@ pub extern "C" fn ciplink_valid(
     0
 }
 
+/// The words of what is told: rule, table, row, the other row's table and the other row.
+fn words_of(t: Told) -> [u64; 5]
+    ensures { λ r. ⌜ r ≡ toldWords (toldOf t) ⌝ }
+{
+    match t {
+        Told::Fine => [0; 5],
+        Told::Broken(b) => [
+            wide(b.rule),
+            wide(b.table),
+            long(b.row),
+            wide(b.other_table),
+            long(b.other),
+        ],
+    }
+}
+
+fn wide(n: u32) -> u64
+    ensures { λ r. ⌜ r ≡ n ⌝ }
+{
+    n as u64
+}
+
+/// The rule that the tables break first, 0 where they are valid; `told` says where.
+#[no_mangle]
+pub extern "C" fn ciplink_breach(
+    structures: &[[u32; 10]],
+    members: &[[u32; 9]],
+    programs: &[[u32; 2]],
+    tags: &[[u32; 12]],
+    others: &[[u32; 5]],
+    names: &[u8],
+    tag_names: &[u8],
+    templates: &[u8],
+    memory: &[u8],
+    told: &mut [u64; 5],
+) -> u64
+    ensures { λ r. let t = tablesOf (now (structures .entry)) (now (members .entry)) (now (programs .entry)) (now (tags .entry))
+        (now (others .entry)) (now (names .entry)) (now («tag_names» .entry)) (now (templates .entry)) in
+        let words = toldWords (breach t (length (now (memory .entry)))) in
+        ⌜ (r ≡ getD words 0 0) × (now (told .exit) ≡ words) ⌝ }
+{
+    let words = words_of(tables::breach(
+        structures,
+        members,
+        programs,
+        tags,
+        others,
+        names,
+        tag_names,
+        templates,
+        memory,
+    ));
+    *told = words;
+    words[0]
+}
+
 /// Answers a request over tables that ciplink_valid took, within the limits of items 1 to 3: the reply's length.
 #[no_mangle]
 pub extern "C" fn ciplink_answer(
@@ -158,7 +217,7 @@ pub extern "C" fn ciplink_message(
     limit: usize,
     buf: &mut [u8],
 ) -> u64
-    ensures { λ r. ⌜ Told (entry (tablesOf (now (structures .entry)) (now (members .entry)) (now (programs .entry)) (now (tags .entry)) (now (others .entry)) (now (names .entry)) (now («tag_names» .entry)) (now (templates .entry))) (flagsIn flags) (now (memory .entry)) (now (request .entry)) limit (now (buf .entry))) r (now (buf .exit)) (now (memory .exit)) ⌝ }
+    ensures { λ r. ⌜ ToldReply (entry (tablesOf (now (structures .entry)) (now (members .entry)) (now (programs .entry)) (now (tags .entry)) (now (others .entry)) (now (names .entry)) (now («tag_names» .entry)) (now (templates .entry))) (flagsIn flags) (now (memory .entry)) (now (request .entry)) limit (now (buf .entry))) r (now (buf .exit)) (now (memory .exit)) ⌝ }
 {
     match logix::entry::message(
         structures,
