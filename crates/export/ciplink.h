@@ -95,10 +95,78 @@ typedef struct { /* a symbol that is no tag: a program, routine or task; at most
 #define CIPLINK_REQUEST_TOO_LONG (CIPLINK_REFUSED + 1) /* the request exceeds 65,535 bytes */
 #define CIPLINK_LIMIT_TOO_LARGE (CIPLINK_REFUSED + 2)  /* the limit exceeds 65,535 */
 #define CIPLINK_BUFFER_TOO_SHORT (CIPLINK_REFUSED + 3) /* the reply buffer is shorter than max(8, limit) */
-#define CIPLINK_TABLES_INVALID (CIPLINK_REFUSED + 4)   /* ciplink_valid says 0 */
+#define CIPLINK_TABLES_INVALID (CIPLINK_REFUSED + 4)   /* ciplink_valid says 0; ciplink_breach says which rule and row */
 
-/* 1 if the tables are valid for tag memory of this length, else 0. Its time grows with the square of the tags. */
+/* 1 if the tables are valid for tag memory of this length, else 0. The tags are sorted, so its time grows little faster than
+ * their number; it takes about 50 KB of stack. Only where two names of a table are told apart by none of their sort keys does
+ * each two tags have to be compared; names that were not made for it do not meet so. */
 uint32_t ciplink_valid(CIPLINK_TABLES, const uint8_t *memory, size_t memory_length);
+
+/* Where tables break the rules first. The tests stand in a fixed order (docs/RULES.md): the counts, the rows of each table,
+ * then rows that clash with each other; of the first test that is broken the first row. A rule's number is 100 times the
+ * number of its T, 1 to 11 for the encoding of a row. Rows are counted from 0. Where no two rows clash, other_table is 0. */
+#define CIPLINK_STRUCTURES 1u
+#define CIPLINK_MEMBERS 2u
+#define CIPLINK_PROGRAMS 3u
+#define CIPLINK_TAGS 4u
+#define CIPLINK_OTHERS 5u
+#define CIPLINK_TAG_MEMORY 6u     /* row: the first byte too many */
+#define CIPLINK_TEMPLATE_STORE 7u /* likewise */
+
+typedef struct {
+  uint64_t rule; /* 0: the tables are valid, and all else is 0 */
+  uint64_t table;
+  uint64_t row;
+  uint64_t other_table;
+  uint64_t other; /* a row of other_table; of one table it is the earlier row, of a member it is its structure */
+} ciplink_told;
+
+/* Each rule in words. */
+#define CIPLINK_RULES(RULE)                                                                    \
+  RULE(1, "encoding: its name does not stand in the store of names")                           \
+  RULE(2, "encoding: its scope is no program's")                                               \
+  RULE(3, "encoding: its type is neither an atomic code nor a structure in the tables")        \
+  RULE(4, "encoding: its template ID exceeds 65535")                                           \
+  RULE(5, "encoding: its handle exceeds 65535")                                                \
+  RULE(6, "encoding: its symbol type exceeds 65535")                                           \
+  RULE(7, "encoding: its members do not stand in the member table")                            \
+  RULE(8, "encoding: its AOI mark is not 0 or 1")                                              \
+  RULE(9, "encoding: its hidden mark is not 0 or 1")                                           \
+  RULE(10, "encoding: its local mark is not 0 or 1")                                           \
+  RULE(11, "encoding: its alias mark is not 0 or 1")                                           \
+  RULE(101, "T1: there are more than the controller takes")                                    \
+  RULE(102, "T1: its access is not 0 to 3")                                                    \
+  RULE(201, "T2: its name has no or more than 40 bytes")                                       \
+  RULE(202, "T2: its name has a byte below 0x20 or above 0x7E")                                \
+  RULE(203, "T2: the same name, case ignored, as another row, in the same scope")              \
+  RULE(301, "T3: its ID is 0")                                                                 \
+  RULE(302, "T3: the same ID as another row in the same scope")                                \
+  RULE(401, "T4: it has no or more than 65535 bytes")                                          \
+  RULE(402, "T4: its template does not stand in the template store")                           \
+  RULE(403, "T4: its bit is not 0 to 7, or 8 for none")                                        \
+  RULE(404, "T4: its type is neither atomic nor of an earlier structure than its own")         \
+  RULE(405, "T4: it does not end inside its structure")                                        \
+  RULE(501, "T5: its type is neither an atomic code nor a structure in the tables")            \
+  RULE(502, "T5: a length of 0 has a length behind it")                                        \
+  RULE(503, "T5: its elements are not the product of its lengths")                             \
+  RULE(601, "T6: its bytes do not end in tag memory")                                          \
+  RULE(602, "T6: it shares a byte with another row")
+
+static inline const char *ciplink_rule_text(uint64_t rule) {
+  switch (rule) {
+#define CIPLINK_RULE_CASE(number, text) \
+  case number:                          \
+    return text;
+    CIPLINK_RULES(CIPLINK_RULE_CASE)
+#undef CIPLINK_RULE_CASE
+  default:
+    return "the tables are valid";
+  }
+}
+
+/* The rule that the tables break first, 0 where they are valid for tag memory of this length; `told` says where, whatever it
+ * held before. Valid tables are judged as quickly as by ciplink_valid; where two of many rows clash, each two are compared. */
+uint64_t ciplink_breach(CIPLINK_TABLES, const uint8_t *memory, size_t memory_length, ciplink_told *told);
 
 /* Answers a CIP message with a reply that the limit cuts; writes go to tag memory (at most 65,536 bytes). Judges all of its
  * arguments anew: it answers or refuses whatever is passed. Afterwards the reply buffer has the reply, zeros from its end up
