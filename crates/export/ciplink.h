@@ -2,6 +2,7 @@
  *
  * Link target/staticlib/libexport.a, which `rt staticlib export` writes (x86-64 Linux). The functions keep nothing between
  * two calls, allocate nothing and may run in several threads at once, each on tag memory and a reply buffer of its own.
+ * A call that judges tables (every one but ciplink_answer) takes about 50 KB of stack.
  *
  * A table passes as a pointer to its rows and their number, a store of bytes as a pointer and its length. No pointer may be
  * NULL, not even one to nothing. Tag memory and the reply buffer overlap nothing else that is passed, nor each other, and
@@ -97,9 +98,9 @@ typedef struct { /* a symbol that is no tag: a program, routine or task; at most
 #define CIPLINK_BUFFER_TOO_SHORT (CIPLINK_REFUSED + 3) /* the reply buffer is shorter than max(8, limit) */
 #define CIPLINK_TABLES_INVALID (CIPLINK_REFUSED + 4)   /* ciplink_valid says 0; ciplink_breach says which rule and row */
 
-/* 1 if the tables are valid for tag memory of this length, else 0. The tags are sorted, so its time grows little faster than
- * their number; it takes about 50 KB of stack. Only where two names of a table are told apart by none of their sort keys does
- * each two tags have to be compared; names that were not made for it do not meet so. */
+/* 1 if the tables are valid for tag memory of this length, else 0. From 40 tags on they are sorted, so that the time grows
+ * little faster than their number. Where two different names of a scope have one sort key, each two tags are compared: none
+ * of a million usual names did, but such names can be made. */
 uint32_t ciplink_valid(CIPLINK_TABLES, const uint8_t *memory, size_t memory_length);
 
 /* Where tables break the rules first. The tests stand in a fixed order (docs/RULES.md): the counts, the rows of each table,
