@@ -1,6 +1,6 @@
 //! The cases of a table set: the reference's answers, and the entry refusals that document 01 alone decides.
 
-use crate::broken::broken;
+use crate::broken::{Kind, broken};
 use crate::messages::Talk;
 use crate::rng::Rng;
 use crate::tables::{self, Set};
@@ -51,7 +51,7 @@ pub struct Wanted {
 pub struct Run {
     pub set: Set,
     pub cases: Vec<Case>,
-    pub broken: Option<&'static str>,
+    pub broken: Option<&'static Kind>,
 }
 
 /// The longest message and the largest limit that the entry lets pass.
@@ -115,14 +115,14 @@ pub fn talk(set: &Set, rng: &mut Rng, entry: &mut Rng, wanted: Wanted, mut each:
 /// The same set broken in one place: refused with number 4, unless the message, the limit or the buffer comes first.
 pub fn run_broken(seed: u64, set: &Set, long: bool) -> Run {
     let mut rng = Rng::new(seed ^ 0x5EED);
-    let (what, set) = broken(&mut rng, set, long);
+    let (kind, set) = broken(&mut rng, set, long);
     let mut cases = Vec::new();
     for _ in 0..2 {
         let mut other = Rng::new(rng.next());
         let message = Talk::new(&set, &mut other, 100).message_of_any_tables();
         cases.push(refused(&mut rng, message, &set.memory, true, long));
     }
-    Run { set, cases, broken: Some(what) }
+    Run { set, cases, broken: Some(kind) }
 }
 
 /// A case that the entry refuses: message or limit above 65,535, buffer below max(8, limit), tables broken, in this order.

@@ -6,9 +6,9 @@ use ciplink_sim::rows::{Flags, Tables};
 /// An answer of this and more is this plus the number of an entry refusal; one below it is the reply's length.
 pub const REFUSED: u64 = 0x1_0000_0000;
 
-/// Functions of the arguments that `ciplink_message` and `ciplink_answer` share.
+/// Functions of the eight tables and of what follows them.
 macro_rules! entries {
-    ($($name:ident)*) => {
+    ($($name:ident($($rest:ident: $type:ty),*) -> $answer:ty;)*) => {
         unsafe extern "C" {
             $(fn $name(
                 structures: *const [u32; 10],
@@ -27,41 +27,18 @@ macro_rules! entries {
                 tag_names_length: usize,
                 templates: *const u8,
                 templates_length: usize,
-                flags: u32,
-                memory: *mut u8,
-                memory_length: usize,
-                request: *const u8,
-                request_length: usize,
-                limit: usize,
-                reply: *mut u8,
-                reply_length: usize,
-            ) -> u64;)*
+                $($rest: $type),*
+            ) -> $answer;)*
         }
     };
 }
-entries!(ciplink_message ciplink_answer);
-
-unsafe extern "C" {
-    fn ciplink_valid(
-        structures: *const [u32; 10],
-        structure_count: usize,
-        members: *const [u32; 9],
-        member_count: usize,
-        programs: *const [u32; 2],
-        program_count: usize,
-        tags: *const [u32; 12],
-        tag_count: usize,
-        others: *const [u32; 5],
-        other_count: usize,
-        names: *const u8,
-        names_length: usize,
-        tag_names: *const u8,
-        tag_names_length: usize,
-        templates: *const u8,
-        templates_length: usize,
-        memory: *const u8,
-        memory_length: usize,
-    ) -> u32;
+entries! {
+    ciplink_message(flags: u32, memory: *mut u8, memory_length: usize, request: *const u8, request_length: usize,
+        limit: usize, reply: *mut u8, reply_length: usize) -> u64;
+    ciplink_answer(flags: u32, memory: *mut u8, memory_length: usize, request: *const u8, request_length: usize,
+        limit: usize, reply: *mut u8, reply_length: usize) -> u64;
+    ciplink_valid(memory: *const u8, memory_length: usize) -> u32;
+    ciplink_breach(memory: *const u8, memory_length: usize, told: *mut [u64; 5]) -> u64;
 }
 
 /// Calls a function with the eight tables and what follows them.
@@ -99,7 +76,7 @@ pub struct Asked<'a> {
 }
 
 // Each block below is sound for one reason: every start and length that is passed are those of a slice that outlives the
-// call, the two that are written overlap nothing, and the functions, as they are proved, stay inside them.
+// call, what is written overlaps nothing, and the functions, as they are proved, stay inside them.
 
 /// The reply's length, or `REFUSED` plus the refusal's number.
 pub fn message(asked: Asked, memory: &mut [u8], reply: &mut [u8]) -> u64 {
@@ -123,4 +100,9 @@ pub unsafe fn answer(asked: Asked, memory: &mut [u8], reply: &mut [u8]) -> u64 {
 /// 1 if the tables are valid by T1 to T6 for this tag memory, else 0.
 pub fn valid(t: &Tables, memory: &[u8]) -> u32 {
     unsafe { call!(ciplink_valid, t, memory.as_ptr(), memory.len()) }
+}
+
+/// The number of the rule that the tables break first, 0 if they are valid; the numbers of `ciplink_told` are written.
+pub fn breach(t: &Tables, memory: &[u8], told: &mut [u64; 5]) -> u64 {
+    unsafe { call!(ciplink_breach, t, memory.as_ptr(), memory.len(), told) }
 }

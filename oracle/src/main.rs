@@ -1,12 +1,15 @@
 //! The driver: generates table sets and messages, runs the reference on them, and does something with each case.
 //!
 //!   driver count SEED SETS MESSAGES              run the reference, print which items and statuses occurred
+//!   driver breaches SEED SETS                    break SETS table sets, hold the model of `breach` to T1 to T6
 //!   driver antt SEED SETS MESSAGES DIR PER CHUNK write the cases as antt crates below DIR: PER table sets to a crate,
 //!                                                CHUNK cases to a theorem
 
 // what only the other drivers use of the generators
 #![allow(dead_code)]
 
+mod breach;
+mod breaches;
 mod broken;
 mod cases;
 mod messages;
@@ -32,13 +35,14 @@ fn count(seed: u64, sets: u64, messages: usize) {
             tally.note(&case.message, case.reply(), run.set.flags.micro800);
             longest = longest.max(case.reply().len());
         }
-        *broken.entry(run_broken(seed + index, &run.set, false).broken).or_insert(0) += 1;
+        let kind = run_broken(seed + index, &run.set, false).broken;
+        *broken.entry(kind.map_or("", |kind| kind.what)).or_insert(0) += 1;
     }
     println!("seeds {seed} to {}: {} messages", seed + sets - 1, sets * messages as u64);
     tally.print();
     println!("longest reply {longest}");
     for (what, count) in broken {
-        println!("broken: {} {count}", what.unwrap_or(""));
+        println!("broken: {what} {count}");
     }
 }
 
@@ -77,6 +81,10 @@ fn main() {
     let number = |i: usize| -> u64 { args.get(i).and_then(|a| a.parse().ok()).unwrap_or_else(|| usage()) };
     match args.first().map(String::as_str) {
         Some("count") => count(number(1), number(2), number(3) as usize),
+        Some("breaches") => {
+            let seeds = number(1)..number(1) + number(2);
+            std::process::exit(breaches::run(seeds, |_| None))
+        }
         Some("antt") => {
             let dir = args.get(4).unwrap_or_else(|| usage());
             antt(number(1), number(2), number(3) as usize, Path::new(dir), number(5), number(6) as usize)
@@ -86,6 +94,8 @@ fn main() {
 }
 
 fn usage() -> ! {
-    eprintln!("driver count SEED SETS MESSAGES\ndriver antt SEED SETS MESSAGES DIR PER CHUNK");
+    eprintln!("driver count SEED SETS MESSAGES");
+    eprintln!("driver breaches SEED SETS");
+    eprintln!("driver antt SEED SETS MESSAGES DIR PER CHUNK");
     std::process::exit(2)
 }

@@ -1,11 +1,14 @@
 //! Holds the entry points of `crates/export`, linked from its archive, to the reference: outcomes, replies, the buffer
-//! behind them, tag memory after each message, and the entry refusals.
+//! behind them, tag memory after each message, and the entry refusals; and what is told of broken tables to a model.
 //!
 //!   messages SEED SETS MESSAGES     MESSAGES messages to each of SETS table sets; exit status 1 if an answer differs
+//!   messages breaches SEED SETS     SETS table sets, each broken in one to three places: only what is told of them
 
 // what only the other drivers use of the generators
 #![allow(dead_code)]
 
+mod breach;
+mod breaches;
 mod broken;
 mod cases;
 mod ciplink;
@@ -18,13 +21,14 @@ mod tables;
 mod tally;
 mod valid;
 
+use breaches::{Breaches, Judged};
+use broken::Kind;
 use cases::{Case, Expected, Run, Wanted, run_broken, sound, talk};
 use ciplink::{Asked, REFUSED};
 use ciplink_sim::rows::Flags;
 use findings::hex;
 use lent::{Lent, pattern};
 use rng::Rng;
-use std::collections::BTreeMap;
 use tables::{LARGE, MEDIUM, SMALL, Set, Size};
 use tally::Tally;
 
@@ -36,7 +40,7 @@ const PRINTED: u64 = 20;
 struct Origin<'a> {
     seed: u64,
     set: &'a Set,
-    broken: Option<&'a str>,
+    broken: Option<&'static Kind>,
 }
 
 #[derive(Default)]
@@ -45,8 +49,8 @@ struct Comparison {
     /// Messages that went through `ciplink_message` and through `ciplink_answer`.
     judged: u64,
     answered: u64,
-    /// Verdicts of `ciplink_valid` by what was broken, "" where nothing was.
-    verdicts: BTreeMap<&'static str, u64>,
+    /// What was told of the table sets.
+    breaches: Breaches,
     /// Messages by the flags' bits.
     flags: [u64; 16],
     finished: [u64; 3],
@@ -58,8 +62,8 @@ struct Comparison {
     expected: Vec<u8>,
 }
 
-/// The size of a seed's tables; of how many messages one goes through `ciplink_message`, which judges the tables anew,
-/// in a time that grows with the square of the tags; and how many copies are broken for each 200 messages.
+/// The size of a seed's tables; of how many messages one goes through `ciplink_message`, which judges the tables anew; and
+/// how many copies are broken for each 200 messages.
 fn sizes(seed: u64) -> (&'static Size, u32, usize) {
     match seed % 50 {
         0 => (&LARGE, 300, 1),
@@ -83,7 +87,7 @@ impl Comparison {
         let mut rng = Rng::new(seed);
         let mut set = sound(seed, tables::sized(&mut rng, size));
         self.most_tags = self.most_tags.max(set.tables.tags.len());
-        if self.verdict(Origin { seed, set: &set, broken: None }, "", 1) {
+        if self.verdict(Origin { seed, set: &set, broken: None }) == 1 {
             let (mut entry, mut which) = (Rng::new(!seed), Rng::new(seed ^ 0xA115));
             for (flags, count) in legs(set.flags, messages) {
                 set.flags = flags;
@@ -98,22 +102,24 @@ impl Comparison {
         }
         for copy in 0..(copies * messages / 200).max(1) as u64 {
             let Run { set, cases, broken } = run_broken(seed ^ copy << 40, &set, true);
-            self.verdict(Origin { seed, set: &set, broken }, broken.unwrap_or(""), 0);
+            self.verdict(Origin { seed, set: &set, broken });
             for case in cases {
                 self.hold(Origin { seed, set: &set, broken }, &case, true);
             }
         }
     }
 
-    /// Whether `ciplink_valid` judges a set as it is due.
-    fn verdict(&mut self, origin: Origin, what: &'static str, due: u32) -> bool {
-        *self.verdicts.entry(what).or_default() += 1;
-        let told = ciplink::valid(&origin.set.tables, &origin.set.memory);
-        if told != due && self.differs(origin, "ciplink_valid") {
-            println!("  expected  {due}\n  the port: {told}");
-            show_tables(origin);
+    /// Holds what `ciplink_valid` and `ciplink_breach` say of a set to what is due; what the first says.
+    fn verdict(&mut self, origin: Origin) -> u32 {
+        let judged = judged(origin.set);
+        let verdict = judged.valid;
+        if let Err(what) = self.breaches.hold(origin.set, origin.broken, Some(judged)) {
+            if self.differs(origin, "the verdict on the tables") {
+                println!("  {what}");
+                show_tables(origin);
+            }
         }
-        told == due
+        verdict
     }
 
     /// One message: the outcome, the buffer and tag memory afterwards.
@@ -197,15 +203,27 @@ impl Comparison {
         let [reads, templates, pages] = self.finished;
         println!("continued to the end: {reads} reads, {templates} template reads, {pages} symbol pages");
         println!("longest reply {} bytes, largest tag table {} tags", self.longest, self.most_tags);
-        let sound = self.verdicts.get("").copied().unwrap_or(0);
-        let broken: u64 = self.verdicts.values().sum::<u64>() - sound;
-        let kinds = self.verdicts.len() - usize::from(sound > 0);
-        println!("ciplink_valid: {sound} valid table sets, {broken} broken in {kinds} ways");
+        println!(
+            "ciplink_valid and ciplink_breach: sets broken in one place, and which rule was told of which table"
+        );
+        self.breaches.print_kinds();
+        self.breaches.print_total();
         match self.differ {
             0 => println!("no answer differs"),
             n => println!("{n} answers differ"),
         }
     }
+}
+
+/// What the port says of a table set. The numbers that it tells stand between two guards.
+fn judged(set: &Set) -> Judged {
+    const GUARD: u64 = 0xA5A5_A5A5_A5A5_A5A5;
+    let (t, memory) = (&set.tables, &set.memory[..]);
+    let mut room = [[GUARD; 5]; 3];
+    let rule = ciplink::breach(t, memory, &mut room[1]);
+    let [before, told, after] = room;
+    let guarded = before == [GUARD; 5] && after == [GUARD; 5];
+    Judged { valid: ciplink::valid(t, memory), rule, told, guarded }
 }
 
 /// Bytes in hex, the middle of very many left out.
@@ -235,8 +253,8 @@ fn show_difference(what: &str, due: &[u8], found: &[u8]) {
 }
 
 fn show_tables(origin: Origin) {
-    if let Some(what) = origin.broken {
-        println!("  tables broken: {what}");
+    if let Some(kind) = origin.broken {
+        println!("  tables broken: {}", kind.what);
     }
     match origin.set.tables.tags.len() {
         0..=40 => println!("  tables {:X?}", origin.set.tables),
@@ -244,17 +262,31 @@ fn show_tables(origin: Origin) {
     }
 }
 
-fn main() {
-    let args: Vec<u64> = std::env::args().skip(1).map_while(|a| a.parse().ok()).collect();
-    let [seed, sets, messages] = args[..] else {
-        eprintln!("messages SEED SETS MESSAGES");
-        std::process::exit(2)
-    };
+fn numbers(words: &[String]) -> Option<Vec<u64>> {
+    words.iter().map(|word| word.parse().ok()).collect()
+}
+
+/// Sends messages to the table set of each seed; the exit status.
+fn compare(seed: u64, sets: u64, messages: u64) -> i32 {
     let mut comparison = Comparison::default();
     for seed in seed..seed + sets {
         comparison.seed(seed, messages as usize);
     }
     println!("seed {seed}: {sets} table sets, {messages} messages each and some to broken copies");
     comparison.print();
-    std::process::exit(i32::from(comparison.differ > 0))
+    i32::from(comparison.differ > 0)
+}
+
+fn main() {
+    let words: Vec<String> = std::env::args().skip(1).collect();
+    let told_alone = words.first().is_some_and(|word| word == "breaches");
+    let status = match (told_alone, numbers(&words[usize::from(told_alone)..]).as_deref()) {
+        (false, Some(&[seed, sets, messages])) => compare(seed, sets, messages),
+        (true, Some(&[seed, sets])) => breaches::run(seed..seed + sets, |set| Some(judged(set))),
+        _ => {
+            eprintln!("messages SEED SETS MESSAGES\nmessages breaches SEED SETS");
+            2
+        }
+    };
+    std::process::exit(status)
 }

@@ -135,7 +135,7 @@ pub fn lines(module: &str, runs: &[(String, Run)], chunk: usize) -> String {
                 hex(&c.message),
                 hex(&c.before),
                 hex(&c.after),
-                run.broken.unwrap_or("")
+                run.broken.map_or("", |kind| kind.what)
             );
         }
         first += run.cases.len();

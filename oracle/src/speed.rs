@@ -98,6 +98,8 @@ struct Row<'a> {
     bench: &'a Bench,
     requests: Vec<Vec<u8>>,
     limit: usize,
+    /// Whether they go through `ciplink_message`, which judges the tables at each call.
+    judged: bool,
 }
 
 fn rows<'a>(few: &'a Bench, many: &'a Bench) -> Vec<Row<'a>> {
@@ -109,7 +111,8 @@ fn rows<'a>(few: &'a Bench, many: &'a Bench) -> Vec<Row<'a>> {
     let reads: Vec<Vec<u8>> = few.ids().cycle().take(20).map(|id| read(&by_name(id))).collect();
     let pages = many.ids().map(|id| page(&[], id, &[1, 2, 7, 8])).collect();
     let template = vec![request(0x4C, &[0x20, 0x6C, 0x25, 0, 0x23, 0x01], &[0, 0, 0, 0, 0x58, 0x02])];
-    let row = |what, bench, requests, limit| Row { what, bench, requests, limit };
+    let row = |what, bench, requests, limit| Row { what, bench, requests, limit, judged: false };
+    let through_message = "read by name through ciplink_message, 1,024 tags";
     vec![
         row("read by name, 10 tags", few, names(few), 504),
         row("read by name, 1,024 tags", many, names(many), 504),
@@ -120,6 +123,7 @@ fn rows<'a>(few: &'a Bench, many: &'a Bench) -> Vec<Row<'a>> {
         row("envelope of 20 reads, 10 tags", few, vec![envelope(&reads)], 504),
         row("symbol page, 1,024 tags", many, pages, 504),
         row("template read, 500 of 600 bytes", few, template, 504),
+        Row { judged: true, ..row(through_message, many, names(many), 504) },
     ]
 }
 
@@ -155,8 +159,8 @@ fn median(mut times: Vec<f64>) -> f64 {
     times[times.len() / 2]
 }
 
-/// The medians of both sides, or None where an answer differs.
-fn compare(row: &Row, runs: usize) -> Option<[f64; 2]> {
+/// The medians of both sides, the port's through `send`; None where an answer differs.
+fn compare(row: &Row, runs: usize, send: impl Fn(Asked, &mut [u8], &mut [u8]) -> u64) -> Option<[f64; 2]> {
     let flags = Flags { multi_service: true, instance_ids: true, ..Flags::default() };
     let t = &row.bench.tables;
     let mut logix = Logix::from_rows(t, flags, &row.bench.memory);
@@ -165,18 +169,15 @@ fn compare(row: &Row, runs: usize) -> Option<[f64; 2]> {
     let mut port = |n: u64, buffer: &mut [u8]| {
         let request = &row.requests[n as usize % row.requests.len()];
         let asked = Asked { tables: t, flags, request, limit: row.limit };
-        // sound: the tables were judged above; request, limit and buffer are short and long enough
-        unsafe { ciplink::answer(black_box(asked), &mut memory, buffer) as usize }
+        send(black_box(asked), &mut memory, buffer) as usize
     };
     let mut rust = |n: u64| logix.answer(black_box(&row.requests[n as usize % row.requests.len()]), row.limit);
     for n in 0..row.requests.len() as u64 {
         let (due, told) = (rust(n), port(n, &mut buffer));
-        if due != buffer[..told] || !matches!(due[2], 0 | 0x06) {
-            println!(
-                "differs: {}, request {n}\n  the Rust: {due:X?}\n  the port: {:X?}",
-                row.what,
-                &buffer[..told]
-            );
+        // what is refused has no length
+        let told = buffer.get(..told);
+        if told != Some(&due) || !matches!(due[2], 0 | 0x06) {
+            println!("differs: {}, request {n}\n  the Rust: {due:X?}\n  the port: {told:X?}", row.what);
             return None;
         }
     }
@@ -204,17 +205,24 @@ fn main() {
     println!("| message | Rust, ns | this port, ns | port ÷ Rust |\n|---|---|---|---|");
     let mut differ = false;
     for row in rows(&few, &many) {
-        match compare(&row, runs) {
+        let times = match row.judged {
+            true => compare(&row, runs, ciplink::message),
+            // sound: `compare` has the tables judged; request, limit and buffer are short and long enough
+            false => {
+                compare(&row, runs, |asked, memory, buffer| unsafe { ciplink::answer(asked, memory, buffer) })
+            }
+        };
+        match times {
             Some([rust, port]) => println!("| {} | {rust:.0} | {port:.0} | {:.2} |", row.what, port / rust),
             None => differ = true,
         }
     }
-    for tags in [16, 128, 1024] {
+    for (shown, tags) in [("16", 16), ("64", 64), ("256", 256), ("1,024", 1024)] {
         let bench = Bench::new(tags);
         let mut judge = |_| _ = black_box(ciplink::valid(black_box(&bench.tables), &bench.memory));
         let count = calibrated(&mut judge);
         let port = median((0..runs).map(|_| time(count, &mut judge)).collect());
-        println!("| tables judged, {tags} tags | – | {port:.0} | – |");
+        println!("| tables judged, {shown} tags | – | {port:.0} | – |");
     }
     std::process::exit(i32::from(differ))
 }

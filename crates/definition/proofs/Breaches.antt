@@ -21,13 +21,13 @@ use Rattle.definition.specs.Told.{None-exactly-where-valid}
 
 -- ---- a test tells nothing exactly where all its rows pass
 
-abbrev Passed : Test → Type 0
+abbrev pub Passed : Test → Type 0
 Passed x = (i j : ℕ) → i < x .others → x .from i ≤ j → j < x .upto i → x .holds i j ≡ true
 
-told-none : (x : Test) (i j : ℕ) → toldOf x i j ≡ none → x .holds i j ≡ true
+pub told-none : (x : Test) (i j : ℕ) → toldOf x i j ≡ none → x .holds i j ≡ true
 told-none x i j e = by-test (x .holds i j) (λ q. q) (λ q. clash (cc))
 
-passed : (x : Test) → testBreach x ≡ none → Passed x
+pub passed : (x : Test) → testBreach x ≡ none → Passed x
 unfolding testBreach rowBreach
 passed x e i j h l m =
     let row = first-all (rowBreach x) 0 (x .others) i e (omega arith) (omega arith) in

@@ -19,8 +19,9 @@ use Rattle.laws.proofs.Tests.{both-true, both-fails, either-fails, every-fails,
 use Rattle.definition.specs.Tables.{Tables, Row, tagScope, tagId, tagType, tagOffset}
 use Rattle.definition.specs.Types.{isStructure}
 use Rattle.definition.specs.Valid.{isType, tagNamesDiffer, otherNamesDiffer, programNamesDiffer, idsDiffer, endIn, apart}
-use Rattle.definition.specs.Breach.{Breach, Test, rowAt, counts, nameLength, nameBytes, structureRules, memberRules, programRules, hasElements, tagRules, otherRules, endsWithin, clashes, tests, noTest, testAt, toldOf, rowBreach, testBreach, breach}
+use Rattle.definition.specs.Breach.{Breach, Test, rowAt, counts, nameLength, nameBytes, structureRules, memberRules, programRules, hasElements, tagRules, otherRules, endsWithin, clashes, tests, noTest, testAt, tell, toldOf, rowBreach, testBreach, breach}
 use Rattle.definition.specs.Told.{countOf, NoType, OddByte, SharedByte, Says, What-is-told-is-true}
+use Rattle.definition.proofs.Breaches.{told-none, passed as all-pass}
 use Rattle.definition.proofs.Facts.{size-some, elements-some}
 use Rattle.definition.proofs.Lengths.{zero-between}
 
@@ -38,30 +39,20 @@ Holds x = (i j : ℕ) → Reached x i j → x .holds i j ≡ true
 abbrev Before : Test → (i j : ℕ) → Type 0
 Before x i j = (k : ℕ) → x .from i ≤ k → k < j → x .holds i k ≡ true
 
-abbrev told : Test → (i j : ℕ) → Breach
-told x i j = record { rule = x .rule; table = x .table; row = j; otherTable = x .otherTable; other = i }
-
 record Tells (x : Test) (b : Breach) : Type 0 where
   i : ℕ
   j : ℕ
   reached : Reached x i j
   before : Before x i j
   broken : x .holds i j ≡ false
-  same : told x i j ≡ b
-
-none-told : (h : Bool) (a : Breach) → pick h none (some a) ≡ none → h ≡ true
-none-told true a e = refl
-none-told false a e = clash (cc)
+  same : tell x i j ≡ b
 
 some-told : (h : Bool) (a b : Breach) → pick h none (some a) ≡ some b → (h ≡ false) × (a ≡ b)
 some-told true a b e = clash (cc)
 some-told false a b e = (refl, (cc))
 
 holds : (x : Test) → testBreach x ≡ none → Holds x
-unfolding testBreach rowBreach
-holds x e i j r =
-    none-told _ _
-    (first-all (toldOf x i) (x .from i) _ j (first-all (rowBreach x) 0 (x .others) i e (omega arith) (omega arith)) (r .low) (omega arith))
+holds x e i j r = all-pass x e i j (r .against) (r .low) (r .high)
 
 tells : (x : Test) (b : Breach) → testBreach x ≡ some b → Tells x b
 unfolding testBreach rowBreach
@@ -74,7 +65,7 @@ tells x b e =
       i = i;
       j = s .number;
       reached = omega (arith, r .high, s .low, s .high);
-      before = λ k l m. none-told _ _ (s .before k l m);
+      before = λ k l m. told-none x i k (s .before k l m);
       broken = h .0;
       same = h .1;
     }
@@ -136,7 +127,7 @@ abbrev isRule : ℕ → Test → Bool
 isRule k x = eqb (x .rule) k
 
 abbrev Claim : (Breach → Type 0) → Test → Type 0
-Claim P x = (i j : ℕ) → Reached x i j → Before x i j → x .holds i j ≡ false → P (told x i j)
+Claim P x = (i j : ℕ) → Reached x i j → Before x i j → x .holds i j ≡ false → P (tell x i j)
 
 module _ (t : Tables) (memory : ℕ) (b : Breach) (e : breach t memory ≡ some b) where
   first : First (λ n. testBreach (testAt t memory n)) 0 (length (tests t memory)) b
