@@ -14,7 +14,7 @@ use borrow.Author.Tests.{leb-true, leb-false, ltb-false, ltb-true, eq-eqb, eqb-t
 use Rattle.laws.specs.Pick.{pick, both}
 use Rattle.laws.specs.Sorted.{All}
 use Rattle.laws.proofs.Chain.{by-test, clash}
-use Rattle.laws.proofs.First.{First, first-all, first-some}
+use Rattle.laws.proofs.First.{First, first-some}
 use Rattle.laws.proofs.Tests.{both-true, both-fails, either-fails, every-fails, All-at, All-parts, passing, until, All-passing, passing-at, All-until}
 use Rattle.definition.specs.Tables.{Tables, Row, tagScope, tagId, tagType, tagOffset}
 use Rattle.definition.specs.Types.{isStructure}

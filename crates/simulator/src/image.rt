@@ -1,10 +1,10 @@
 // A table image (IMAGE.md): a head with the counts, the rows, the stores and the tag memory.
 ghost use mathlib.Core.Path.{_≡_};
-ghost use mathlib.Core.Bool.{true};
+ghost use mathlib.Core.Bool.{true, false};
 ghost use Prim.Native.Nat.{_+_, _≤_};
 ghost use lib.ListN.{length};
 ghost use Rattle.simulator.specs.Images.{Few, rowsSize, storesSize, imageSize};
-use crate::rows;
+use crate::image_rows;
 use crate::say;
 use crate::session;
 use model::Flags;
@@ -62,35 +62,52 @@ fn read_head(image: &[u8]) -> Head
     }
 }
 
+/// Whether a count is above what a controller takes; if so, it is said.
+fn over(n: usize, what: &[u8], most: usize) -> bool
+    ensures { λ r. ⌜ (r ≡ false → n ≤ most) ⌝ }
+{
+    if n <= most {
+        return false;
+    }
+    say::text(b"table image: ");
+    say::number(n as u64);
+    say::text(b" ");
+    say::text(what);
+    say::text(b", at most ");
+    say::number(most as u64);
+    say::text(b"\n");
+    true
+}
+
 /// Whether no count is above what T1 allows.
 fn few(h: Head) -> bool
     ensures { λ r. ⌜ (r ≡ true → Few h) ⌝ }
 {
-    if h.structures > 64 {
+    if over(h.structures, b"structures", 64) {
         return false;
     }
-    if h.members > 512 {
+    if over(h.members, b"members", 512) {
         return false;
     }
-    if h.programs > 16 {
+    if over(h.programs, b"programs", 16) {
         return false;
     }
-    if h.tags > 1024 {
+    if over(h.tags, b"tags", 1024) {
         return false;
     }
-    if h.others > 64 {
+    if over(h.others, b"other symbols", 64) {
         return false;
     }
-    if h.names > 26240 {
+    if over(h.names, b"bytes of names", 26240) {
         return false;
     }
-    if h.tag_names > 40960 {
+    if over(h.tag_names, b"bytes of tag names", 40960) {
         return false;
     }
-    if h.templates > 65536 {
+    if over(h.templates, b"bytes of templates", 65536) {
         return false;
     }
-    h.memory <= 65536
+    !over(h.memory, b"bytes of tag memory", 65536)
 }
 
 /// The bytes of the head and the rows.
@@ -158,19 +175,19 @@ fn load(h: Head, image: &[u8])
     requires { ⌜ (Few h) × (length (now image) ≡ imageSize h) ⌝ }
 {
     let n = h.structures;
-    let structures = rows::structures(image, 48, n);
+    let structures = image_rows::structures(image, 48, n);
     let at = 48 + 40 * n;
     let m = h.members;
-    let members = rows::members(image, at, m);
+    let members = image_rows::members(image, at, m);
     let at = at + 36 * m;
     let p = h.programs;
-    let programs = rows::programs(image, at, p);
+    let programs = image_rows::programs(image, at, p);
     let at = at + 8 * p;
     let t = h.tags;
-    let tags = rows::tags(image, at, t);
+    let tags = image_rows::tags(image, at, t);
     let at = at + 48 * t;
     let o = h.others;
-    let others = rows::others(image, at, o);
+    let others = image_rows::others(image, at, o);
     let at = at + 20 * o;
     open_with(
         h,
@@ -195,7 +212,6 @@ pub fn serve(image: &[u8]) {
     }
     let h = read_head(image);
     if !few(h) {
-        say::text(b"table image: it has more rows or bytes than a controller takes\n");
         return;
     }
     let n = size(h);

@@ -2,10 +2,10 @@
 // Without an argument it serves the pallet bench of document 01, with one the table image in the file of that name.
 mod hex;
 mod image;
+mod image_rows;
 mod lines;
 mod pallet;
 mod reply;
-mod rows;
 mod say;
 mod session;
 

@@ -13,6 +13,7 @@ use crate::lines::Place;
 use crate::reply;
 use crate::say;
 use model::Flags;
+use tables::rules::Told;
 
 /// Answers a request and shows the reply.
 fn respond(
@@ -248,6 +249,50 @@ fn serve(
     }
 }
 
+/// Whether the tables are valid for this tag memory; if not, it is said what they break.
+fn judged(
+    structures: &[[u32; 10]],
+    members: &[[u32; 9]],
+    programs: &[[u32; 2]],
+    tags: &[[u32; 12]],
+    others: &[[u32; 5]],
+    names: &[u8],
+    tag_names: &[u8],
+    templates: &[u8],
+    memory: &[u8],
+) -> bool
+    ensures { λ r. let t = tablesOf (now (structures .entry)) (now (members .entry)) (now (programs .entry)) (now (tags .entry))
+        (now (others .entry)) (now (names .entry)) (now («tag_names» .entry)) (now (templates .entry)) in
+        ⌜ (r ≡ true → valid t (length (now (memory .entry))) ≡ true) ⌝ }
+{
+    let told = tables::breach(
+        structures,
+        members,
+        programs,
+        tags,
+        others,
+        names,
+        tag_names,
+        templates,
+        memory,
+    );
+    if let Told::Broken(b) = told {
+        say::text(b"the tables are not valid: ");
+        wording::say(
+            b,
+            structures,
+            members,
+            programs,
+            tags,
+            others,
+            names,
+            tag_names,
+        );
+        return false;
+    }
+    true
+}
+
 /// Judges the tables for this tag memory, then serves them.
 pub fn open(
     structures: &[[u32; 10]],
@@ -261,7 +306,7 @@ pub fn open(
     flags: Flags,
     memory: &mut [u8],
 ) {
-    if !tables::valid(
+    if !judged(
         structures,
         members,
         programs,
@@ -272,7 +317,6 @@ pub fn open(
         templates,
         memory,
     ) {
-        say::text(b"the tables are not valid: they break one of T1 to T6\n");
         return;
     }
     serve(

@@ -7,7 +7,12 @@ size-requires : tie.Need-size-requires
 size-requires c κs = c .before .few .ensures (not-false _ (c .if3 .left))
 
 load-requires : tie.Need-load-requires
-load-requires c κs = (c .before .before .before .before .few .ensures (not-false _ (c .before .before .before .if3 .left)), search needs)
+load-requires c κs = (
+  let if3 = c .before .before .before .if3 in
+      let few = c .before .before .before .before .few in
+      few .ensures (not-false _ (if3 .left)),
+  search needs,
+)
 
 pub serve-spec : {M : Type 1} → statement M
 serve-spec =
@@ -21,8 +26,6 @@ serve-spec =
     (λ c κs. search needs)
     (λ c. search needs)
     (λ c κs. search needs)
-    (λ c κs. search needs)
-    (λ c. search needs)
     (λ c κs. search needs)
     (λ c. search needs)
     size-requires

@@ -1,21 +1,11 @@
 use borrow.Author.Tests.{not-false}
-use mathlib.Core.Path.{sym, _∙_}
 use borrow.Author.Needs.{needs}
 use Rattle.simulator.proofs.session.open.Statement.{statement}
 use Rattle.simulator.proofs.session.open.Tie as tie
 
 serve-requires : tie.Need-serve-requires
-serve-requires c κs = sym (c .before .before .valid .ensures) ∙ not-false _ (c .before .if1 .left)
+serve-requires c κs = c .before .before .judged .ensures (not-false _ (c .before .if1 .left))
 
 pub open-spec : {M : Type 1} → statement M
 open-spec =
-    tie.close
-    (tie.spec
-    (λ c κs. search needs)
-    (λ c. search needs)
-    (λ c κs. search needs)
-    (λ c. search needs)
-    (λ c. search needs)
-    serve-requires
-    (λ c. search needs)
-    (λ c. search needs))
+    tie.close (tie.spec (λ c κs. search needs) (λ c. search needs) (λ c. search needs) serve-requires (λ c. search needs) (λ c. search needs))

@@ -2,17 +2,17 @@ use Prim.Native.Nat.{_≤_, _-_}
 use mathlib.Core.Path.{_≡_}
 use lib.ListN.{length}
 use borrow.Author.Needs.{needs}
-use Rattle.simulator.proofs.rows.words.Statement.{statement}
-use Rattle.simulator.proofs.rows.words.Tie as tie
+use Rattle.simulator.proofs.image_rows.structures.Statement.{statement}
+use Rattle.simulator.proofs.image_rows.structures.Tie as tie
 
 abbrev Inv-loop : tie.InvT-loop
-Inv-loop row₀ src at j₀ row j = (j ≤ length row₀) × (length row ≡ length row₀)
+Inv-loop src at n rows₀ i₀ rows i = (i ≤ n) × (length rows ≡ 64)
 
 abbrev μ-loop : tie.MeasureT-loop
-μ-loop row₀ src at j₀ row j = length row₀ - j
+μ-loop src at n rows₀ i₀ rows i = n - i
 
-pub words-spec : {M : Type 1} → statement M
-words-spec =
+pub structures-spec : {M : Type 1} → statement M
+structures-spec =
     tie.close
     (tie.spec
     Inv-loop
@@ -20,8 +20,8 @@ words-spec =
     (λ c. search needs)
     (λ c. search needs)
     (λ c. search needs)
-    (λ c κs. search needs)
     (λ c. search needs)
+    (λ c κs. search needs)
     (λ c. search needs)
     (λ c. search needs)
     (λ c. search needs)

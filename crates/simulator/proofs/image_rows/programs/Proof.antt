@@ -2,8 +2,8 @@ use Prim.Native.Nat.{_≤_, _-_}
 use mathlib.Core.Path.{_≡_}
 use lib.ListN.{length}
 use borrow.Author.Needs.{needs}
-use Rattle.simulator.proofs.rows.programs.Statement.{statement}
-use Rattle.simulator.proofs.rows.programs.Tie as tie
+use Rattle.simulator.proofs.image_rows.programs.Statement.{statement}
+use Rattle.simulator.proofs.image_rows.programs.Tie as tie
 
 abbrev Inv-loop : tie.InvT-loop
 Inv-loop src at n rows₀ i₀ rows i = (i ≤ n) × (length rows ≡ 16)

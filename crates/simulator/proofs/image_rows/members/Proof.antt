@@ -2,17 +2,17 @@ use Prim.Native.Nat.{_≤_, _-_}
 use mathlib.Core.Path.{_≡_}
 use lib.ListN.{length}
 use borrow.Author.Needs.{needs}
-use Rattle.simulator.proofs.rows.others.Statement.{statement}
-use Rattle.simulator.proofs.rows.others.Tie as tie
+use Rattle.simulator.proofs.image_rows.members.Statement.{statement}
+use Rattle.simulator.proofs.image_rows.members.Tie as tie
 
 abbrev Inv-loop : tie.InvT-loop
-Inv-loop src at n rows₀ i₀ rows i = (i ≤ n) × (length rows ≡ 64)
+Inv-loop src at n rows₀ i₀ rows i = (i ≤ n) × (length rows ≡ 512)
 
 abbrev μ-loop : tie.MeasureT-loop
 μ-loop src at n rows₀ i₀ rows i = n - i
 
-pub others-spec : {M : Type 1} → statement M
-others-spec =
+pub members-spec : {M : Type 1} → statement M
+members-spec =
     tie.close
     (tie.spec
     Inv-loop

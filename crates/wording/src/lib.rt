@@ -1,0 +1,166 @@
+// Says in one line of standard output where a table set breaks a rule: TABLE, row N "NAME": WORDS.
+// What is written is tested and not proved. No function asks anything of its caller: a row that is not there has no name.
+mod name;
+mod out;
+mod words;
+
+use tables::rules::Breach;
+
+// The tables by number, as `Breach` names them; tag memory and the template store have bytes and no rows.
+pub const NO_TABLE: u32 = 0;
+
+pub const STRUCTURES: u32 = 1;
+
+pub const MEMBERS: u32 = 2;
+
+pub const PROGRAMS: u32 = 3;
+
+pub const TAGS: u32 = 4;
+
+pub const OTHERS: u32 = 5;
+
+pub const TAG_MEMORY: u32 = 6;
+
+pub const TEMPLATE_STORE: u32 = 7;
+
+fn show_table(table: u32) {
+    match table {
+        STRUCTURES => out::text(b"structures, "),
+        MEMBERS => out::text(b"members, "),
+        PROGRAMS => out::text(b"programs, "),
+        TAGS => out::text(b"tags, "),
+        OTHERS => out::text(b"other symbols, "),
+        TAG_MEMORY => out::text(b"tag memory, "),
+        TEMPLATE_STORE => out::text(b"template store, "),
+        _ => out::text(b"no table, "),
+    }
+}
+
+fn has_bytes(table: u32) -> bool {
+    match table {
+        TAG_MEMORY | TEMPLATE_STORE => true,
+        _ => false,
+    }
+}
+
+/// A row's number, and its name if it has one. The names of tags have a store of their own.
+fn show_row(
+    table: u32,
+    row: usize,
+    structures: &[[u32; 10]],
+    members: &[[u32; 9]],
+    programs: &[[u32; 2]],
+    tags: &[[u32; 12]],
+    others: &[[u32; 5]],
+    names: &[u8],
+    tag_names: &[u8],
+) {
+    out::text(b"row ");
+    out::number(row);
+    match table {
+        STRUCTURES => name::show(names, name::of_structure(structures, row)),
+        MEMBERS => name::show(names, name::of_member(members, row)),
+        PROGRAMS => name::show(names, name::of_program(programs, row)),
+        TAGS => name::show(tag_names, name::of_tag(tags, row)),
+        OTHERS => name::show(names, name::of_other(others, row)),
+        _ => {}
+    }
+}
+
+/// Where the rule is broken.
+fn show_place(
+    b: Breach,
+    structures: &[[u32; 10]],
+    members: &[[u32; 9]],
+    programs: &[[u32; 2]],
+    tags: &[[u32; 12]],
+    others: &[[u32; 5]],
+    names: &[u8],
+    tag_names: &[u8],
+) {
+    show_table(b.table);
+    if has_bytes(b.table) {
+        out::text(b"byte ");
+        out::number(b.row);
+        return;
+    }
+    show_row(
+        b.table,
+        b.row,
+        structures,
+        members,
+        programs,
+        tags,
+        others,
+        names,
+        tag_names,
+    );
+}
+
+/// The row that it clashes with, if there is one; its table is named only where it is another one.
+fn show_clash(
+    b: Breach,
+    structures: &[[u32; 10]],
+    members: &[[u32; 9]],
+    programs: &[[u32; 2]],
+    tags: &[[u32; 12]],
+    others: &[[u32; 5]],
+    names: &[u8],
+    tag_names: &[u8],
+) {
+    if b.other_table == NO_TABLE {
+        return;
+    }
+    out::text(b" ");
+    if b.other_table != b.table {
+        show_table(b.other_table);
+    }
+    show_row(
+        b.other_table,
+        b.other,
+        structures,
+        members,
+        programs,
+        tags,
+        others,
+        names,
+        tag_names,
+    );
+    words::behind(b.rule, b.table);
+}
+
+/// One line on a breach of these tables.
+pub fn say(
+    b: Breach,
+    structures: &[[u32; 10]],
+    members: &[[u32; 9]],
+    programs: &[[u32; 2]],
+    tags: &[[u32; 12]],
+    others: &[[u32; 5]],
+    names: &[u8],
+    tag_names: &[u8],
+) {
+    show_place(
+        b,
+        structures,
+        members,
+        programs,
+        tags,
+        others,
+        names,
+        tag_names,
+    );
+    out::text(b": ");
+    words::of_rule(b.rule, b.table, b.row);
+    show_clash(
+        b,
+        structures,
+        members,
+        programs,
+        tags,
+        others,
+        names,
+        tag_names,
+    );
+    out::text(b"\n");
+}

@@ -1,0 +1,100 @@
+// The name of a row: where it stands in its store, and how it is shown.
+use crate::out;
+use model::lookup::part_of;
+use model::lookup::wide;
+
+/// A longer name is cut here, so that a wrong length does not fill the screen.
+const SHOWN: usize = 40;
+
+/// The word of a row at which its name starts; the word behind it is the name's length.
+const NAME: usize = 0;
+
+/// The same of tags and other symbols, whose first word is the scope.
+const SYMBOL_NAME: usize = 1;
+
+/// A part of a store of names.
+pub struct Part {
+    pub start: u32,
+    pub length: u32,
+}
+
+/// The name of a row that is not there.
+fn nothing() -> Part {
+    Part {
+        start: 0,
+        length: 0,
+    }
+}
+
+pub fn of_structure(structures: &[[u32; 10]], row: usize) -> Part {
+    if row >= structures.len() {
+        return nothing();
+    }
+    Part {
+        start: structures[row][NAME],
+        length: structures[row][NAME + 1],
+    }
+}
+
+pub fn of_member(members: &[[u32; 9]], row: usize) -> Part {
+    if row >= members.len() {
+        return nothing();
+    }
+    Part {
+        start: members[row][NAME],
+        length: members[row][NAME + 1],
+    }
+}
+
+pub fn of_program(programs: &[[u32; 2]], row: usize) -> Part {
+    if row >= programs.len() {
+        return nothing();
+    }
+    Part {
+        start: programs[row][NAME],
+        length: programs[row][NAME + 1],
+    }
+}
+
+pub fn of_tag(tags: &[[u32; 12]], row: usize) -> Part {
+    if row >= tags.len() {
+        return nothing();
+    }
+    Part {
+        start: tags[row][SYMBOL_NAME],
+        length: tags[row][SYMBOL_NAME + 1],
+    }
+}
+
+pub fn of_other(others: &[[u32; 5]], row: usize) -> Part {
+    if row >= others.len() {
+        return nothing();
+    }
+    Part {
+        start: others[row][SYMBOL_NAME],
+        length: others[row][SYMBOL_NAME + 1],
+    }
+}
+
+fn quoted(name: &[u8]) {
+    out::text(b" \"");
+    if name.len() > SHOWN {
+        out::signs(&name[..SHOWN]);
+        out::text(b"..\"");
+        return;
+    }
+    out::signs(name);
+    out::text(b"\"");
+}
+
+/// A name in quotes. An empty one is left out, and so is one that does not stand in its store, of which only a piece is there.
+pub fn show(store: &[u8], p: Part) {
+    let name = part_of(store, p.start, p.length);
+    if name.len() == 0 {
+        return;
+    }
+    if name.len() < wide(p.length) {
+        return;
+    }
+    quoted(name);
+}
