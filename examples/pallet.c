@@ -32,6 +32,13 @@ int main(void) {
   for (int i = 0; i < 10; i++) memory[4 + 4 * i] = (uint8_t)(i * i); /* Rows: 0, 1, 4, 9 .. */
   memory[44] = 4;                                                    /* Cell.Run is on */
 
+  ciplink_told told; /* which rule the tables break, if they break one */
+  if (ciplink_breach(structures, 1, members, 1, no_programs, 0, tags, 3, no_others, 0, names, sizeof names - 1, tag_names,
+                     sizeof tag_names - 1, templates, sizeof templates, memory, sizeof memory, &told) != 0) {
+    printf("table %u, row %u: %s\n", (unsigned)told.table, (unsigned)told.row, ciplink_rule_text(told.rule));
+    return 1;
+  }
+
   do {
     /* 0x52, the path `Rows`, 10 elements, and as the offset what is there already */
     uint8_t request[] = {0x52, 3, 0x91, 4, 'R', 'o', 'w', 's', 10, 0, (uint8_t)got, 0, 0, 0};
