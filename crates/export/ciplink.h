@@ -99,8 +99,8 @@ typedef struct { /* a symbol that is no tag: a program, routine or task; at most
 #define CIPLINK_TABLES_INVALID (CIPLINK_REFUSED + 4)   /* ciplink_valid says 0; ciplink_breach says which rule and row */
 
 /* 1 if the tables are valid for tag memory of this length, else 0. From 40 tags on they are sorted, so that the time grows
- * little faster than their number. Where two different names of a scope have one sort key, each two tags are compared: none
- * of a million usual names did, but such names can be made. */
+ * little faster than their number. Where two different names have one sort key, each two tags are compared: of a million
+ * usual names none had (docs/PERFORMANCE.md), but such names can be made. */
 uint32_t ciplink_valid(CIPLINK_TABLES, const uint8_t *memory, size_t memory_length);
 
 /* Where tables break the rules first. The tests stand in a fixed order (docs/RULES.md): the counts, the rows of each table,
