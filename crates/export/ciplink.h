@@ -139,7 +139,7 @@ typedef struct {
   RULE(102, "T1: its access is not 0 to 3")                                                    \
   RULE(201, "T2: its name has no or more than 40 bytes")                                       \
   RULE(202, "T2: its name has a byte below 0x20 or above 0x7E")                                \
-  RULE(203, "T2: the same name, case ignored, as another row, in the same scope")              \
+  RULE(203, "T2: the same name, case ignored, as another program, or symbol of its scope")     \
   RULE(301, "T3: its ID is 0")                                                                 \
   RULE(302, "T3: the same ID as another row in the same scope")                                \
   RULE(401, "T4: it has no or more than 65535 bytes")                                          \
