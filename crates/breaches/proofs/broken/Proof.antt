@@ -1,3 +1,4 @@
+-- The loop is over the tests; each edit that it asks for is one of the table.
 use Prim.Native.Nat.{_≤_, _-_}
 use borrow.Author.Needs.{needs}
 use Rattle.breaches.proofs.broken.Statement.{statement}

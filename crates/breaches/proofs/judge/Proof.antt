@@ -1,3 +1,4 @@
+-- Each count is at most the length of its array.
 use mathlib.Core.Path.{sym}
 use lib.Seq.{length-take-le}
 use borrow.Author.Needs.{needs}

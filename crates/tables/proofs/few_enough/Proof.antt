@@ -1,3 +1,4 @@
+-- The counts in the definition's order.
 use Rattle.laws.proofs.Chain.{chain}
 use Rattle.rows.specs.Judged.{counts7}
 use Rattle.tables.proofs.few_enough.Statement.{statement}

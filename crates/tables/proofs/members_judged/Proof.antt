@@ -1,3 +1,4 @@
+-- Each row before i passes, so the test of the rest is the test of all.
 use Prim.Native.Nat.{_≤_, _-_}
 use mathlib.Core.Path.{_≡_}
 use lib.ListN.{length, drop}
@@ -9,7 +10,9 @@ use Rattle.tables.proofs.members_judged.Statement.{statement}
 use Rattle.tables.proofs.members_judged.Tie as tie
 
 abbrev Inv-loop : tie.InvT-loop
-Inv-loop members names structures i₀ i = (i ≤ length members) × (every (memberJudged names structures) (drop i members) ≡ every (memberJudged names structures) members)
+Inv-loop members names structures i₀ i =
+    (i ≤ length members) ×
+    (every (memberJudged names structures) (drop i members) ≡ every (memberJudged names structures) members)
 
 abbrev μ-loop : tie.MeasureT-loop
 μ-loop members names structures i₀ i = length members - i

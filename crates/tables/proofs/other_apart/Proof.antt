@@ -10,7 +10,9 @@ use Rattle.tables.proofs.other_apart.Statement.{statement}
 use Rattle.tables.proofs.other_apart.Tie as tie
 
 abbrev Inv-loop : tie.InvT-loop
-Inv-loop others i j₀ j = (j ≤ length others) × (i < length others) × (every (idsDiffer (getD others i [])) (drop j others) ≡ every (idsDiffer (getD others i [])) (drop (i + 1) others))
+Inv-loop others i j₀ j =
+    (j ≤ length others) × (i < length others) ×
+    (every (idsDiffer (getD others i [])) (drop j others) ≡ every (idsDiffer (getD others i [])) (drop (i + 1) others))
 
 abbrev μ-loop : tie.MeasureT-loop
 μ-loop others i j₀ j = length others - j

@@ -10,7 +10,9 @@ use Rattle.tables.proofs.program_apart.Statement.{statement}
 use Rattle.tables.proofs.program_apart.Tie as tie
 
 abbrev Inv-loop : tie.InvT-loop
-Inv-loop programs names i j₀ j = (j ≤ length programs) × (i < length programs) × (every (programNamesDiffer names (getD programs i [])) (drop j programs) ≡ every (programNamesDiffer names (getD programs i [])) (drop (i + 1) programs))
+Inv-loop programs names i j₀ j =
+    (j ≤ length programs) × (i < length programs) × (every (programNamesDiffer names (getD programs i []))
+    (drop j programs) ≡ every (programNamesDiffer names (getD programs i [])) (drop (i + 1) programs))
 
 abbrev μ-loop : tie.MeasureT-loop
 μ-loop programs names i j₀ j = length programs - j

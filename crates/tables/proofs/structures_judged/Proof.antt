@@ -1,3 +1,4 @@
+-- Each row before i passes with its index, so the test of the rest is the test of all.
 use Prim.Native.Nat.{_≤_, _-_}
 use mathlib.Core.Path.{_≡_}
 use lib.ListN.{length, drop}
@@ -9,7 +10,9 @@ use Rattle.tables.proofs.structures_judged.Statement.{statement}
 use Rattle.tables.proofs.structures_judged.Tie as tie
 
 abbrev Inv-loop : tie.InvT-loop
-Inv-loop structures members names templates i₀ i = (i ≤ length structures) × (everyFrom (structureJudged structures members names templates) i (drop i structures) ≡ everyFrom (structureJudged structures members names templates) 0 structures)
+Inv-loop structures members names templates i₀ i =
+    (i ≤ length structures) × (everyFrom (structureJudged structures members names templates) i (drop i structures) ≡
+    everyFrom (structureJudged structures members names templates) 0 structures)
 
 abbrev μ-loop : tie.MeasureT-loop
 μ-loop structures members names templates i₀ i = length structures - i

@@ -1,3 +1,4 @@
+-- Each other symbol before j passes, so the test of the rest is the test of all.
 use Prim.Native.Nat.{_≤_, _-_}
 use mathlib.Core.Path.{_≡_}
 use lib.ListN.{length, drop}
@@ -9,7 +10,9 @@ use Rattle.tables.proofs.tag_and_others.Statement.{statement}
 use Rattle.tables.proofs.tag_and_others.Tie as tie
 
 abbrev Inv-loop : tie.InvT-loop
-Inv-loop tag others tag-names names j₀ j = (j ≤ length others) × (every (tagOther tag-names names tag) (drop j others) ≡ every (tagOther tag-names names tag) others)
+Inv-loop tag others tag-names names j₀ j =
+    (j ≤ length others) ×
+    (every (tagOther tag-names names tag) (drop j others) ≡ every (tagOther tag-names names tag) others)
 
 abbrev μ-loop : tie.MeasureT-loop
 μ-loop tag others tag-names names j₀ j = length others - j

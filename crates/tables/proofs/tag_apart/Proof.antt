@@ -1,3 +1,4 @@
+-- Each tag from i + 1 up to j passes, so the test of the rest is the test of all behind i.
 use Prim.Native.Nat.{_≤_, _-_, _+_, _<_}
 use mathlib.Core.Path.{_≡_}
 use lib.ListN.{length, drop, getD}
@@ -10,7 +11,9 @@ use Rattle.tables.proofs.tag_apart.Statement.{statement}
 use Rattle.tables.proofs.tag_apart.Tie as tie
 
 abbrev Inv-loop : tie.InvT-loop
-Inv-loop tags structures tag-names i j₀ j = (j ≤ length tags) × (i < length tags) × (every (tagPair structures tag-names (getD tags i [])) (drop j tags) ≡ every (tagPair structures tag-names (getD tags i [])) (drop (i + 1) tags))
+Inv-loop tags structures tag-names i j₀ j =
+    (j ≤ length tags) × (i < length tags) × (every (tagPair structures tag-names (getD tags i [])) (drop j tags) ≡ every
+    (tagPair structures tag-names (getD tags i [])) (drop (i + 1) tags))
 
 abbrev μ-loop : tie.MeasureT-loop
 μ-loop tags structures tag-names i j₀ j = length tags - j

@@ -1,3 +1,4 @@
+-- Each tag before i passes, so the test of the rest is the test of all.
 use Prim.Native.Nat.{_≤_, _-_}
 use mathlib.Core.Path.{_≡_}
 use lib.ListN.{length, drop}
@@ -9,7 +10,9 @@ use Rattle.tables.proofs.tags_and_others.Statement.{statement}
 use Rattle.tables.proofs.tags_and_others.Tie as tie
 
 abbrev Inv-loop : tie.InvT-loop
-Inv-loop tags others tag-names names i₀ i = (i ≤ length tags) × (every (λ t. every (tagOther tag-names names t) others) (drop i tags) ≡ every (λ t. every (tagOther tag-names names t) others) tags)
+Inv-loop tags others tag-names names i₀ i =
+    (i ≤ length tags) × (every (λ t. every (tagOther tag-names names t) others) (drop i tags) ≡ every
+    (λ t. every (tagOther tag-names names t) others) tags)
 
 abbrev μ-loop : tie.MeasureT-loop
 μ-loop tags others tag-names names i₀ i = length tags - i

@@ -1,3 +1,4 @@
+-- Each row before i passes, so the test of the rest is the test of all.
 use Prim.Native.Nat.{_≤_, _-_}
 use mathlib.Core.Path.{_≡_}
 use lib.ListN.{length, drop}
@@ -9,7 +10,9 @@ use Rattle.tables.proofs.tags_judged.Statement.{statement}
 use Rattle.tables.proofs.tags_judged.Tie as tie
 
 abbrev Inv-loop : tie.InvT-loop
-Inv-loop tags structures tag-names programs memory i₀ i = (i ≤ length tags) × (every (tagJudged structures tag-names programs memory) (drop i tags) ≡ every (tagJudged structures tag-names programs memory) tags)
+Inv-loop tags structures tag-names programs memory i₀ i =
+    (i ≤ length tags) × (every (tagJudged structures tag-names programs memory) (drop i tags) ≡ every
+    (tagJudged structures tag-names programs memory) tags)
 
 abbrev μ-loop : tie.MeasureT-loop
 μ-loop tags structures tag-names programs memory i₀ i = length tags - i

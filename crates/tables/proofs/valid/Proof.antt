@@ -1,3 +1,4 @@
+-- The tests by rows, one after the other, are the definition's by rules.
 use Rattle.laws.proofs.Chain.{refusals}
 use Rattle.rows.proofs.Regrouped.{judged-is-valid}
 use Rattle.rows.specs.Judged.{judged}

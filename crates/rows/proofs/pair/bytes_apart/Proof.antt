@@ -6,11 +6,17 @@ use Rattle.rows.proofs.pair.bytes_apart.Tie as tie
 
 returns : tie.Need-returns
 unfolding apart
-returns c = rw (← c .before .before .before .tag-end .ensures, ← c .before .long .ensures) (search (eithers, tests))
+returns c =
+    let tag-end = c .before .before .before .tag-end in
+    rw (← tag-end .ensures, ← c .before .long .ensures) (search (eithers, tests))
 
 returns-2 : tie.Need-returns-2
 unfolding apart
-returns-2 c = rw (← c .before .before .before .before .before .before .tag-end .ensures, ← c .before .before .tag-end2 .ensures, ← c .before .before .before .before .long .ensures, ← c .long2 .ensures) (search (eithers, tests))
+returns-2 c =
+    let long = c .before .before .before .before .long in
+    let tag-end = c .before .before .before .before .before .before .tag-end in
+    rw (← tag-end .ensures, ← c .before .before .tag-end2 .ensures, ← long .ensures, ← c .long2 .ensures)
+    (search (eithers, tests))
 
 pub bytes-apart-spec : {M : Type 1} → statement M
 bytes-apart-spec =

@@ -10,7 +10,10 @@ returns c = search unlike
 
 returns-2 : tie.Need-returns-2
 unfolding otherNamesDiffer
-returns-2 c = let e = rw (c .before .before .before .before .part-of .ensures, c .before .part-of2 .ensures) at (c .same-name .ensures) in search unlike
+returns-2 c =
+    let part-of = c .before .before .before .before .part-of in
+    let e = rw (part-of .ensures, c .before .part-of2 .ensures) at (c .same-name .ensures) in
+    search unlike
 
 pub other-names-differ-spec : {M : Type 1} → statement M
 other-names-differ-spec =

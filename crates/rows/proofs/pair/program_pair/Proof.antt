@@ -6,7 +6,9 @@ use Rattle.rows.proofs.pair.program_pair.Tie as tie
 
 returns : tie.Need-returns
 unfolding programNamesDiffer
-returns c = rw (c .same-name .ensures, c .before .before .before .before .part-of .ensures, c .before .part-of2 .ensures) refl
+returns c =
+    let part-of = c .before .before .before .before .part-of in
+    rw (c .same-name .ensures, part-of .ensures, c .before .part-of2 .ensures) refl
 
 pub program-pair-spec : {M : Type 1} → statement M
 program-pair-spec =

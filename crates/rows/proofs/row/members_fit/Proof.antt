@@ -9,7 +9,9 @@ use Rattle.rows.proofs.row.members_fit.Statement.{statement}
 use Rattle.rows.proofs.row.members_fit.Tie as tie
 
 abbrev Inv-loop : tie.InvT-loop
-Inv-loop members structures i size j₀ j = (j ≤ length members) × (every (memberFits structures i size) (drop j members) ≡ every (memberFits structures i size) members)
+Inv-loop members structures i size j₀ j =
+    (j ≤ length members) ×
+    (every (memberFits structures i size) (drop j members) ≡ every (memberFits structures i size) members)
 
 abbrev μ-loop : tie.MeasureT-loop
 μ-loop members structures i size j₀ j = length members - j

@@ -9,12 +9,15 @@ use borrow.Author.Needs.{needs}
 use Rattle.rows.proofs.row.program_judged.Statement.{statement}
 use Rattle.rows.proofs.row.program_judged.Tie as tie
 
-by-words : (names : List ℕ) (row : Row) (start n : ℕ) {r : Bool} → r ≡ nameJudged names start n → start ≡ field 0 row → n ≡ field 1 row → r ≡ programJudged names row
+by-words : (names : List ℕ) (row : Row) (start n : ℕ) {r : Bool} → r ≡ nameJudged names start n → start ≡ field 0 row →
+    n ≡ field 1 row → r ≡ programJudged names row
 unfolding programJudged
 by-words names row start n e p q = e ∙ ap₂ (nameJudged names) p q
 
 returns : tie.Need-returns
-returns c = by-words _ (now (c .before .before .before .before .args .row)) _ _ (c .name-judged .ensures) refl refl
+returns c =
+    let args = c .before .before .before .before .args in
+    by-words _ (now (args .row)) _ _ (c .name-judged .ensures) refl refl
 
 pub program-judged-spec : {M : Type 1} → statement M
 program-judged-spec =

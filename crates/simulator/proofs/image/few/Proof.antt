@@ -1,3 +1,4 @@
+-- Each count was found to be no more than the controller takes.
 use Rattle.laws.proofs.Chain.{clash}
 use borrow.Author.Tests.{not-true}
 use borrow.Author.Needs.{needs}

@@ -1,3 +1,4 @@
+-- A count that is not over is at most the limit.
 use Rattle.laws.proofs.Chain.{clash}
 use borrow.Author.Needs.{needs}
 use Rattle.simulator.proofs.image.over.Statement.{statement}

@@ -1,3 +1,4 @@
+-- The image has the bytes that its counts ask.
 use borrow.Author.Tests.{not-false}
 use borrow.Author.Needs.{needs}
 use Rattle.simulator.proofs.image.serve.Statement.{statement}

@@ -1,3 +1,4 @@
+-- Nothing is told exactly of valid tables.
 use Rattle.laws.proofs.Chain.{clash}
 use Rattle.simulator.proofs.Judged.{fine-valid}
 use borrow.Author.Needs.{needs}

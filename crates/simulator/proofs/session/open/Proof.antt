@@ -1,3 +1,4 @@
+-- Only tables that were judged valid are served.
 use borrow.Author.Tests.{not-false}
 use borrow.Author.Needs.{needs}
 use Rattle.simulator.proofs.session.open.Statement.{statement}

@@ -1,3 +1,4 @@
+-- The spans before i are filled in.
 use mathlib.Core.Path.{_≡_, refl}
 use Prim.Native.Nat.{_≤_, _-_}
 use mathlib.Core.List.{[]}
@@ -13,7 +14,9 @@ use Rattle.spread.proofs.sure.byte_spans.Statement.{statement}
 use Rattle.spread.proofs.sure.byte_spans.Tie as tie
 
 abbrev Inv-loop : tie.InvT-loop
-Inv-loop tags structures lo₀ hi₀ i₀ lo hi i = (i ≤ length tags) × (length tags ≤ 1088) × (length lo ≡ 1088) × (length hi ≡ 1088) × Filled lo (λ k. tagOffset (getD tags k [])) i × Filled hi (λ k. endIn structures (getD tags k [])) i
+Inv-loop tags structures lo₀ hi₀ i₀ lo hi i =
+    (i ≤ length tags) × (length tags ≤ 1088) × (length lo ≡ 1088) × (length hi ≡ 1088) × Filled lo
+    (λ k. tagOffset (getD tags k [])) i × Filled hi (λ k. endIn structures (getD tags k [])) i
 
 abbrev μ-loop : tie.MeasureT-loop
 μ-loop tags structures lo₀ hi₀ i₀ lo hi i = length tags - i
@@ -22,10 +25,23 @@ loop-holds : tie.Need-loop-holds Inv-loop μ-loop
 loop-holds c = (search needs, search needs, search needs, search needs, λ k h. absurd (omega arith), λ k h. absurd (omega arith))
 
 loop-again : tie.Need-loop-again Inv-loop μ-loop
-loop-again c = (search needs, search needs, simp length-set (search needs), simp length-set (search needs), filled-next (λ k. tagOffset (getD (now (c .before .before .before .before .args .tags)) k [])) (c .before .before .before .loop .lo) _ _ _ _ (c .before .before .before .loop .inv .4) (search needs) refl (c .byte-span .ensures .0) refl, filled-next (λ k. endIn (now (c .before .before .before .before .args .structures)) (getD (now (c .before .before .before .before .args .tags)) k [])) (c .before .before .before .loop .hi) _ _ _ _ (c .before .before .before .loop .inv .5) (search needs) refl (c .byte-span .ensures .1) refl)
+loop-again c =
+    let loop = c .before .before .before .loop in
+    let args = c .before .before .before .before .args in (
+      search needs,
+      search needs,
+      simp length-set (search needs),
+      simp length-set (search needs),
+      filled-next (λ k. tagOffset (getD (now (args .tags)) k [])) (loop .lo) _ _ _ _ (loop .inv .4) (search needs) refl
+          (c .byte-span .ensures .0) refl,
+      filled-next (λ k. endIn (now (args .structures)) (getD (now (args .tags)) k [])) (loop .hi) _ _ _ _ (loop .inv .5)
+          (search needs) refl (c .byte-span .ensures .1) refl,
+    )
 
 returns : tie.Need-returns Inv-loop μ-loop
-returns c = (λ k h. c .before .loop .inv .4 k (omega arith), λ k h. c .before .loop .inv .5 k (omega arith))
+returns c =
+    let loop = c .before .loop in
+    (λ k h. loop .inv .4 k (omega arith), λ k h. loop .inv .5 k (omega arith))
 
 pub byte-spans-spec : {M : Type 1} → statement M
 byte-spans-spec =

@@ -1,3 +1,4 @@
+-- The definition's folding of A to Z, in 64 bits.
 use Rattle.laws.proofs.Chain.{chain}
 use borrow.Author.Needs.{needs}
 use Rattle.spread.proofs.sure.lowered.Statement.{statement}

@@ -1,3 +1,4 @@
+-- The number of the bytes before i, carried on, is the number of the name.
 use Prim.Native.Nat.{_≤_, _<_, _-_}
 use mathlib.Core.Path.{_≡_, refl}
 use lib.ListN.{length, drop}
@@ -18,7 +19,12 @@ loop-holds : tie.Need-loop-holds Inv-loop μ-loop
 loop-holds c = (search needs, search needs, rw (c .wide .ensures .0) refl)
 
 loop-again : tie.Need-loop-again Inv-loop μ-loop
-loop-again c = (search needs, search needs, run-next mixed _ 0 _ _ _ _ _ (c .before .before .before .loop .inv .2) (c .before .before .loop-test .taken) (c .mixed .ensures .0) refl)
+loop-again c = (
+  search needs,
+  search needs,
+  let loop = c .before .before .before .loop in
+      run-next mixed _ 0 _ _ _ _ _ (loop .inv .2) (c .before .before .loop-test .taken) (c .mixed .ensures .0) refl,
+)
 
 returns : tie.Need-returns Inv-loop μ-loop
 unfolding nameKey

@@ -1,3 +1,4 @@
+-- A tag's two places, or the point between them of another symbol, by its index.
 use mathlib.Core.Path.{refl, ap}
 use Prim.Native.Nat.{_+_, _*_}
 use denote.Ref.{now}
@@ -8,10 +9,24 @@ use Rattle.spread.proofs.sure.name_span.Statement.{statement}
 use Rattle.spread.proofs.sure.name_span.Tie as tie
 
 returns : tie.Need-returns
-returns c = (as-tag (tagFirst (now (c .before .before .before .before .before .args .tag-names))) (otherFirst (now (c .before .before .before .before .before .args .names))) _ _ _ _ (c .before .before .if1 .taken) (ap (λ z. 2 * z) (c .tag-key .ensures .0)), as-tag (tagLast (now (c .before .before .before .before .before .args .tag-names))) (otherFirst (now (c .before .before .before .before .before .args .names))) _ _ _ _ (c .before .before .if1 .taken) (ap (λ z. 2 * z + 2) (c .tag-key .ensures .0)))
+returns c =
+    let if1 = c .before .before .if1 in
+    let args = c .before .before .before .before .before .args in (
+      as-tag (tagFirst (now (args .tag-names))) (otherFirst (now (args .names))) _ _ _ _ (if1 .taken)
+          (ap (λ z. 2 * z) (c .tag-key .ensures .0)),
+      as-tag (tagLast (now (args .tag-names))) (otherFirst (now (args .names))) _ _ _ _ (if1 .taken)
+          (ap (λ z. 2 * z + 2) (c .tag-key .ensures .0)),
+    )
 
 returns-2 : tie.Need-returns-2
-returns-2 c = (as-other (tagFirst (now (c .before .before .before .before .before .args .tag-names))) (otherFirst (now (c .before .before .before .before .before .args .names))) _ _ _ _ _ (c .before .before .if1 .left) refl (ap (λ z. 2 * z + 1) (c .other-key .ensures .0)), as-other (tagLast (now (c .before .before .before .before .before .args .tag-names))) (otherFirst (now (c .before .before .before .before .before .args .names))) _ _ _ _ _ (c .before .before .if1 .left) refl (ap (λ z. 2 * z + 1) (c .other-key .ensures .0)))
+returns-2 c =
+    let if1 = c .before .before .if1 in
+    let args = c .before .before .before .before .before .args in (
+      as-other (tagFirst (now (args .tag-names))) (otherFirst (now (args .names))) _ _ _ _ _ (if1 .left) refl
+          (ap (λ z. 2 * z + 1) (c .other-key .ensures .0)),
+      as-other (tagLast (now (args .tag-names))) (otherFirst (now (args .names))) _ _ _ _ _ (if1 .left) refl
+          (ap (λ z. 2 * z + 1) (c .other-key .ensures .0)),
+    )
 
 pub name-span-spec : {M : Type 1} → statement M
 name-span-spec =

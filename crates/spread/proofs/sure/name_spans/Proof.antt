@@ -1,3 +1,4 @@
+-- The spans before i are filled in.
 use mathlib.Core.Path.{_≡_, refl}
 use Prim.Native.Nat.{_≤_, _-_, _+_}
 use native.Mathlib.Omega.{arith}
@@ -10,7 +11,10 @@ use Rattle.spread.proofs.sure.name_spans.Statement.{statement}
 use Rattle.spread.proofs.sure.name_spans.Tie as tie
 
 abbrev Inv-loop : tie.InvT-loop
-Inv-loop tags others tag-names names lo₀ hi₀ n i₀ lo hi i = (i ≤ n) × (n ≡ length tags + length others) × (n ≤ 1088) × (length lo ≡ 1088) × (length hi ≡ 1088) × Filled lo (ofSymbol (tagFirst tag-names) (otherFirst names) tags others) i × Filled hi (ofSymbol (tagLast tag-names) (otherFirst names) tags others) i
+Inv-loop tags others tag-names names lo₀ hi₀ n i₀ lo hi i =
+    (i ≤ n) × (n ≡ length tags + length others) × (n ≤ 1088) × (length lo ≡ 1088) × (length hi ≡ 1088) × Filled lo
+    (ofSymbol (tagFirst tag-names) (otherFirst names) tags others) i × Filled hi
+    (ofSymbol (tagLast tag-names) (otherFirst names) tags others) i
 
 abbrev μ-loop : tie.MeasureT-loop
 μ-loop tags others tag-names names lo₀ hi₀ n i₀ lo hi i = n - i
@@ -19,10 +23,24 @@ loop-holds : tie.Need-loop-holds Inv-loop μ-loop
 loop-holds c = (search needs, search needs, search needs, search needs, search needs, λ k h. absurd (omega arith), λ k h. absurd (omega arith))
 
 loop-again : tie.Need-loop-again Inv-loop μ-loop
-loop-again c = (search needs, search needs, search needs, simp length-set (search needs), simp length-set (search needs), filled-next (ofSymbol (tagFirst (now (c .before .before .before .before .before .args .tag-names))) (otherFirst (now (c .before .before .before .before .before .args .names))) (now (c .before .before .before .before .before .args .tags)) (now (c .before .before .before .before .before .args .others))) (c .before .before .loop .lo) _ _ _ _ (c .before .before .loop .inv .5) (search needs) refl (c .name-span .ensures .0) refl, filled-next (ofSymbol (tagLast (now (c .before .before .before .before .before .args .tag-names))) (otherFirst (now (c .before .before .before .before .before .args .names))) (now (c .before .before .before .before .before .args .tags)) (now (c .before .before .before .before .before .args .others))) (c .before .before .loop .hi) _ _ _ _ (c .before .before .loop .inv .6) (search needs) refl (c .name-span .ensures .1) refl)
+loop-again c =
+    let loop = c .before .before .loop in
+    let args = c .before .before .before .before .before .args in (
+      search needs,
+      search needs,
+      search needs,
+      simp length-set (search needs),
+      simp length-set (search needs),
+      filled-next (ofSymbol (tagFirst (now (args .tag-names))) (otherFirst (now (args .names))) (now (args .tags))
+          (now (args .others))) (loop .lo) _ _ _ _ (loop .inv .5) (search needs) refl (c .name-span .ensures .0) refl,
+      filled-next (ofSymbol (tagLast (now (args .tag-names))) (otherFirst (now (args .names))) (now (args .tags))
+          (now (args .others))) (loop .hi) _ _ _ _ (loop .inv .6) (search needs) refl (c .name-span .ensures .1) refl,
+    )
 
 returns : tie.Need-returns Inv-loop μ-loop
-returns c = (λ k h. c .before .loop .inv .5 k (omega arith), λ k h. c .before .loop .inv .6 k (omega arith))
+returns c =
+    let loop = c .before .loop in
+    (λ k h. loop .inv .5 k (omega arith), λ k h. loop .inv .6 k (omega arith))
 
 pub name-spans-spec : {M : Type 1} → statement M
 name-spans-spec =

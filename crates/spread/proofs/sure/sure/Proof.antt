@@ -1,3 +1,4 @@
+-- 0 is answered only where bytes, IDs and names were all found apart.
 use native.Mathlib.Omega.{arith}
 use Rattle.spread.proofs.Keyed.{all-sure}
 use borrow.Author.Needs.{needs}
@@ -20,7 +21,11 @@ returns-5 : tie.Need-returns-5
 returns-5 c = λ e. absurd (omega arith)
 
 returns-6 : tie.Need-returns-6
-returns-6 c = λ e. all-sure _ _ _ _ _ (c .before .before .before .before .bytes-apart .ensures (c .before .before .before .if4 .left)) (c .before .before .ids-differ .ensures (c .before .if5 .left)) (c .names-differ .ensures e)
+returns-6 c =
+    let if4 = c .before .before .before .if4 in
+    let bytes-apart = c .before .before .before .before .bytes-apart in
+    λ e. all-sure _ _ _ _ _ (bytes-apart .ensures (if4 .left))
+    (c .before .before .ids-differ .ensures (c .before .if5 .left)) (c .names-differ .ensures e)
 
 pub sure-spec : {M : Type 1} → statement M
 sure-spec =

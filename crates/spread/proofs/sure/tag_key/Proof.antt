@@ -1,3 +1,4 @@
+-- The number of the name that the row names.
 use borrow.Author.Needs.{needs}
 use Rattle.spread.proofs.sure.tag_key.Statement.{statement}
 use Rattle.spread.proofs.sure.tag_key.Tie as tie

@@ -65,76 +65,88 @@ returns-10 c = let m = c .match .rest in rw past-clashes
 pub clash-holds-spec : {M : Type 1} → statement M
 unfolding clashes
 clash-holds-spec =
-    tie.close
-    (tie.spec
-    (λ c. let h = rw (c .match .keys1) at (c .before .before .before .pre) in search needs)
-    (λ c. let h = rw (c .match .keys1) at (c .before .before .before .pre) in search needs)
-    (λ c. search needs)
+    tie.close (tie.spec
+    (λ c. let pre = c .before .before .before .pre in let h = rw (c .match .keys1) at pre in search needs)
+    (λ c. let pre = c .before .before .before .pre in let h = rw (c .match .keys1) at pre in search needs)
+    (λ c. search needs) (λ c κs. search needs)
+    (λ c. let pre = c .before .before .before .pre in let h = rw (c .match .keys2) at pre in search needs)
+    (λ c. let pre = c .before .before .before .pre in let h = rw (c .match .keys2) at pre in search needs)
+    (λ c.
+    let pre = c .before .before .before .before .pre in
+    let h = rw (c .before .match .keys2) at pre in
+    search needs) (λ c. let pre = c .before .before .before .before .pre in rw (c .before .match .keys2) at (pre .0))
+    (λ c. search needs) (λ c κs. search needs)
+    (λ c. let pre = c .before .before .before .pre in let h = rw (c .match .keys3) at pre in search needs)
+    (λ c. let pre = c .before .before .before .pre in rw (c .match .keys3) at (pre .0))
+    (λ c.
+    let pre = c .before .before .before .before .pre in
+    let h = rw (c .before .match .keys3) at pre in
+    search needs) (λ c. let pre = c .before .before .before .before .pre in rw (c .before .match .keys3) at (pre .1))
     (λ c κs. search needs)
-    (λ c. let h = rw (c .match .keys2) at (c .before .before .before .pre) in search needs)
-    (λ c. let h = rw (c .match .keys2) at (c .before .before .before .pre) in search needs)
-    (λ c. let h = rw (c .before .match .keys2) at (c .before .before .before .before .pre) in search needs)
-    (λ c. rw (c .before .match .keys2) at (c .before .before .before .before .pre .0))
-    (λ c. search needs)
+    (λ c. let pre = c .before .before .before .pre in let h = rw (c .match .keys4) at pre in search needs)
+    (λ c. let pre = c .before .before .before .pre in rw (c .match .keys4) at (pre .0))
+    (λ c.
+    let pre = c .before .before .before .before .pre in
+    let h = rw (c .before .match .keys4) at pre in
+    search needs) (λ c. let pre = c .before .before .before .before .pre in rw (c .before .match .keys4) at (pre .1))
     (λ c κs. search needs)
-    (λ c. let h = rw (c .match .keys3) at (c .before .before .before .pre) in search needs)
-    (λ c. rw (c .match .keys3) at (c .before .before .before .pre .0))
-    (λ c. let h = rw (c .before .match .keys3) at (c .before .before .before .before .pre) in search needs)
-    (λ c. rw (c .before .match .keys3) at (c .before .before .before .before .pre .1))
+    (λ c. let pre = c .before .before .before .pre in let h = rw (c .match .keys5) at pre in search needs)
+    (λ c. let pre = c .before .before .before .pre in rw (c .match .keys5) at (pre .0))
+    (λ c.
+    let pre = c .before .before .before .before .pre in
+    let h = rw (c .before .match .keys5) at pre in
+    search needs) (λ c. let pre = c .before .before .before .before .pre in rw (c .before .match .keys5) at (pre .1))
     (λ c κs. search needs)
-    (λ c. let h = rw (c .match .keys4) at (c .before .before .before .pre) in search needs)
-    (λ c. rw (c .match .keys4) at (c .before .before .before .pre .0))
-    (λ c. let h = rw (c .before .match .keys4) at (c .before .before .before .before .pre) in search needs)
-    (λ c. rw (c .before .match .keys4) at (c .before .before .before .before .pre .1))
+    (λ c. let pre = c .before .before .before .pre in let h = rw (c .match .keys6) at pre in search needs)
+    (λ c. let pre = c .before .before .before .pre in rw (c .match .keys6) at (pre .0)) (λ c. search needs)
+    (λ c.
+    let pre = c .before .before .before .before .pre in
+    let h = rw (c .before .match .keys6) at pre in
+    search needs) (λ c. let pre = c .before .before .before .before .pre in rw (c .before .match .keys6) at (pre .0))
+    (λ c. search needs) (λ c.
+    let pre = c .before .before .before .before .before .pre in
+    let h = rw (c .before .before .match .keys6) at pre in
+    search needs)
+    (λ c. let pre = c .before .before .before .before .before .pre in rw (c .before .before .match .keys6) at (pre .1))
+    (λ c. search needs) (λ c.
+    let match = c .before .before .before .match in
+    let pre = c .before .before .before .before .before .before .pre in
+    let h = rw (match .keys6) at pre in
+    search needs) (λ c.
+    let match = c .before .before .before .match in
+    let pre = c .before .before .before .before .before .before .pre in
+    rw (match .keys6) at (pre .1)) (λ c. search needs) (λ c κs. search needs)
+    (λ c. let pre = c .before .before .before .pre in let h = rw (c .match .keys7) at pre in search needs)
+    (λ c. let pre = c .before .before .before .pre in rw (c .match .keys7) at (pre .0)) (λ c. search needs)
+    (λ c.
+    let pre = c .before .before .before .before .pre in
+    let h = rw (c .before .match .keys7) at pre in
+    search needs) (λ c. let pre = c .before .before .before .before .pre in rw (c .before .match .keys7) at (pre .0))
+    (λ c. search needs) (λ c.
+    let pre = c .before .before .before .before .before .pre in
+    let h = rw (c .before .before .match .keys7) at pre in
+    search needs)
+    (λ c. let pre = c .before .before .before .before .before .pre in rw (c .before .before .match .keys7) at (pre .1))
+    (λ c. search needs) (λ c.
+    let match = c .before .before .before .match in
+    let pre = c .before .before .before .before .before .before .pre in
+    let h = rw (match .keys7) at pre in
+    search needs) (λ c.
+    let match = c .before .before .before .match in
+    let pre = c .before .before .before .before .before .before .pre in
+    rw (match .keys7) at (pre .1)) (λ c. search needs) (λ c κs. search needs)
+    (λ c. let pre = c .before .before .before .pre in let h = rw (c .match .keys8) at pre in search needs)
+    (λ c. let pre = c .before .before .before .pre in rw (c .match .keys8) at (pre .0))
+    (λ c.
+    let pre = c .before .before .before .before .pre in
+    let h = rw (c .before .match .keys8) at pre in
+    search needs) (λ c. let pre = c .before .before .before .before .pre in rw (c .before .match .keys8) at (pre .1))
     (λ c κs. search needs)
-    (λ c. let h = rw (c .match .keys5) at (c .before .before .before .pre) in search needs)
-    (λ c. rw (c .match .keys5) at (c .before .before .before .pre .0))
-    (λ c. let h = rw (c .before .match .keys5) at (c .before .before .before .before .pre) in search needs)
-    (λ c. rw (c .before .match .keys5) at (c .before .before .before .before .pre .1))
-    (λ c κs. search needs)
-    (λ c. let h = rw (c .match .keys6) at (c .before .before .before .pre) in search needs)
-    (λ c. rw (c .match .keys6) at (c .before .before .before .pre .0))
-    (λ c. search needs)
-    (λ c. let h = rw (c .before .match .keys6) at (c .before .before .before .before .pre) in search needs)
-    (λ c. rw (c .before .match .keys6) at (c .before .before .before .before .pre .0))
-    (λ c. search needs)
-    (λ c. let h = rw (c .before .before .match .keys6) at (c .before .before .before .before .before .pre) in search needs)
-    (λ c. rw (c .before .before .match .keys6) at (c .before .before .before .before .before .pre .1))
-    (λ c. search needs)
-    (λ c. let h = rw (c .before .before .before .match .keys6) at (c .before .before .before .before .before .before .pre) in search needs)
-    (λ c. rw (c .before .before .before .match .keys6) at (c .before .before .before .before .before .before .pre .1))
-    (λ c. search needs)
-    (λ c κs. search needs)
-    (λ c. let h = rw (c .match .keys7) at (c .before .before .before .pre) in search needs)
-    (λ c. rw (c .match .keys7) at (c .before .before .before .pre .0))
-    (λ c. search needs)
-    (λ c. let h = rw (c .before .match .keys7) at (c .before .before .before .before .pre) in search needs)
-    (λ c. rw (c .before .match .keys7) at (c .before .before .before .before .pre .0))
-    (λ c. search needs)
-    (λ c. let h = rw (c .before .before .match .keys7) at (c .before .before .before .before .before .pre) in search needs)
-    (λ c. rw (c .before .before .match .keys7) at (c .before .before .before .before .before .pre .1))
-    (λ c. search needs)
-    (λ c. let h = rw (c .before .before .before .match .keys7) at (c .before .before .before .before .before .before .pre) in search needs)
-    (λ c. rw (c .before .before .before .match .keys7) at (c .before .before .before .before .before .before .pre .1))
-    (λ c. search needs)
-    (λ c κs. search needs)
-    (λ c. let h = rw (c .match .keys8) at (c .before .before .before .pre) in search needs)
-    (λ c. rw (c .match .keys8) at (c .before .before .before .pre .0))
-    (λ c. let h = rw (c .before .match .keys8) at (c .before .before .before .before .pre) in search needs)
-    (λ c. rw (c .before .match .keys8) at (c .before .before .before .before .pre .1))
-    (λ c κs. search needs)
-    (λ c. let h = rw (c .match .keys9) at (c .before .before .before .pre) in search needs)
-    (λ c. rw (c .match .keys9) at (c .before .before .before .pre .0))
-    (λ c. let h = rw (c .before .match .keys9) at (c .before .before .before .before .pre) in search needs)
-    (λ c. rw (c .before .match .keys9) at (c .before .before .before .before .pre .1))
-    (λ c κs. search needs)
-    returns
-    returns-2
-    returns-3
-    returns-4
-    returns-5
-    returns-6
-    returns-7
-    returns-8
-    returns-9
+    (λ c. let pre = c .before .before .before .pre in let h = rw (c .match .keys9) at pre in search needs)
+    (λ c. let pre = c .before .before .before .pre in rw (c .match .keys9) at (pre .0))
+    (λ c.
+    let pre = c .before .before .before .before .pre in
+    let h = rw (c .before .match .keys9) at pre in
+    search needs) (λ c. let pre = c .before .before .before .before .pre in rw (c .before .match .keys9) at (pre .1))
+    (λ c κs. search needs) returns returns-2 returns-3 returns-4 returns-5 returns-6 returns-7 returns-8 returns-9
     returns-10)

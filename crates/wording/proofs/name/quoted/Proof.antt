@@ -1,3 +1,4 @@
+-- What is cut off lies behind 40 bytes, so the part stands in the name.
 use mathlib.Core.Path.{sym}
 use lib.Seq.{length-take-le}
 use borrow.Author.Needs.{needs}
