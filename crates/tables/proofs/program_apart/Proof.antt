@@ -1,3 +1,4 @@
+-- Each row from i + 1 up to j passes, so the test of the rest is the test of all behind i.
 use Prim.Native.Nat.{_≤_, _-_, _+_, _<_}
 use mathlib.Core.Path.{_≡_}
 use lib.ListN.{length, drop, getD}

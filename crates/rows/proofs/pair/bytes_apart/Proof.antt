@@ -1,3 +1,4 @@
+-- Either tag ends where the other begins or earlier, each end by its definition.
 use Rattle.laws.proofs.Chain.{eithers, tests}
 use Rattle.definition.specs.Valid.{apart}
 use borrow.Author.Needs.{needs}

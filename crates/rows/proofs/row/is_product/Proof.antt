@@ -1,3 +1,4 @@
+-- Up to the first zero the lengths are multiplied in 64 bits; a product past 32 bits is no number of elements.
 use Prim.Native.Nat.{_*_, _<_}
 use mathlib.Core.Path.{refl, sym}
 use borrow.Author.Tests.{eq-eqb, ne-eqb}
