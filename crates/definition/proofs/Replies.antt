@@ -1,7 +1,7 @@
 -- Every reply of the dispatcher has four bytes at least, one of document 01's statuses, and at most max(8, limit) bytes.
 -- Assumes nothing.
 use mathlib.Core.Path.{_≡_, refl}
-use mathlib.Core.Bool.{Bool, true, not}
+use mathlib.Core.Bool.{Bool, true, false, not}
 use mathlib.Core.List.{List, [], _∷_}
 use mathlib.Core.Option.{Option, none, some}
 use Prim.Native.Nat.{ℕ, suc, _+_, _-_, _*_, _≤_, min}
@@ -48,6 +48,13 @@ pub record Proper (limit : ℕ) (r : List ℕ) : Type 0 where
 abbrev Known : Status → Type 0
 Known s = isStatus (codeOf s) ≡ true
 
+-- a status that turns a request away: neither 0x00 nor 0x06
+abbrev pub isDone : ℕ → Bool
+isDone code = either (eqb code 0x00) (eqb code 0x06)
+
+abbrev pub Refuses : Status → Type 0
+Refuses s = Known s × (isDone (codeOf s) ≡ false)
+
 headed-reply : (service : ℕ) (s : Status) (body : List ℕ) → Known s → Headed (reply service s body)
 unfolding reply
 headed-reply service (general code) body k = record { long = omega arith; status = k }
@@ -79,23 +86,23 @@ proper-fragment limit service header chunk h =
     let s = space (length header) limit in
     proper-reply limit service _ _ (status-known (length chunk) s) (simp (length-append, length-take) (omega (arith, size-fits (length chunk) s)))
 
-abbrev AskedWell : Asked → Type 0
+abbrev pub AskedWell : Asked → Type 0
 AskedWell (granted s) = length (s .header) ≤ 4
-AskedWell (notGranted status) = Known status
+AskedWell (notGranted status) = Refuses status
 
-ask-well : (structures : List Row) (g : Target) (elements : ℕ) → AskedWell (ask structures g elements)
+pub ask-well : (structures : List Row) (g : Target) (elements : ℕ) → AskedWell (ask structures g elements)
 unfolding ask selection isStatus some-of
 ask-well structures g elements =
     let h = header-short structures (g .type) in
     pick-all AskedWell (eqb (g .bit) 8)
-    (pick-all AskedWell (eqb elements 0) refl (pick-all AskedWell (ltb (g .count) elements) refl h))
-    (pick-all AskedWell (eqb elements 1) h refl)
+    (pick-all AskedWell (eqb elements 0) (refl, refl) (pick-all AskedWell (ltb (g .count) elements) (refl, refl) h))
+    (pick-all AskedWell (eqb elements 1) h (refl, refl))
 
 proper-send : (limit service : ℕ) (a : Asked) (memory : List ℕ) (offset : ℕ) → AskedWell a → Proper limit (send service a memory offset limit)
 unfolding sendFrom isStatus some-of
 proper-send limit service (granted s) memory offset h =
     pick-all (Proper limit) (leb (length (selectedBytes s memory)) offset) (proper-fail limit service _ refl) (proper-fragment limit service _ _ h)
-proper-send limit service (notGranted status) memory offset k = proper-fail limit service status k
+proper-send limit service (notGranted status) memory offset k = proper-fail limit service status (k .0)
 
 proper-read : (structures : List Row) (memory : List ℕ) (service : ℕ) (g : Target) (body : List ℕ) (limit : ℕ) → Proper limit (readReply structures memory service g body limit)
 unfolding readReply isStatus some-of
@@ -151,9 +158,9 @@ proper-store limit service (noStore status) memory w = proper-fail limit service
 
 -- ---- a path's status
 
-abbrev TurnsWell : Resolved → Type 0
+abbrev pub TurnsWell : Resolved → Type 0
 TurnsWell (found g) = Unit {0}
-TurnsWell (turned status) = Known status
+TurnsWell (turned status) = Refuses status
 
 then-well : (r : Resolved) (next : Target → Resolved) → TurnsWell r → ((g : Target) → TurnsWell (next g)) → TurnsWell (andThen r next)
 then-well (found g) next w n = n g
@@ -161,46 +168,46 @@ then-well (turned status) next w n = w
 
 member-well : (t : Tables) (f : Flags) (g : Target) (i : Option ℕ) → TurnsWell (memberFound t f g i)
 unfolding visibleMember isStatus some-of
-member-well t f g none = refl
+member-well t f g none = (refl, refl)
 member-well t f g (some i) =
-    pick-all TurnsWell (both (marked (isLocal (getD (membersOf t (structureOf t (g .type))) i []))) (f .aoiLocalsRefused)) refl tt
+    pick-all TurnsWell (both (marked (isLocal (getD (membersOf t (structureOf t (g .type))) i []))) (f .aoiLocalsRefused)) (refl, refl) tt
 
 move-well : (t : Tables) (f : Flags) (m : Move) (g : Target) → TurnsWell (moveTo t f m g)
 unfolding index memberOf isStatus some-of
 move-well t f (indexes es) g =
-    pick-all TurnsWell (isEmpty (g .lengths)) refl
-    (pick-all TurnsWell (eqb (length es) (length (g .lengths))) (pick-all TurnsWell (allBelow es (g .lengths)) tt refl) refl)
+    pick-all TurnsWell (isEmpty (g .lengths)) (refl, refl)
+    (pick-all TurnsWell (eqb (length es) (length (g .lengths))) (pick-all TurnsWell (allBelow es (g .lengths)) tt (refl, refl)) (refl, refl))
 move-well t f (member name) g =
-    pick-all TurnsWell (both (isStructure (g .type)) (both (isEmpty (g .lengths)) (eqb (g .bit) noBit))) (member-well t f g (memberNamed t (structureOf t (g .type)) name)) refl
-move-well t f stray g = refl
+    pick-all TurnsWell (both (isStructure (g .type)) (both (isEmpty (g .lengths)) (eqb (g .bit) noBit))) (member-well t f g (memberNamed t (structureOf t (g .type)) name)) (refl, refl)
+move-well t f stray g = (refl, refl)
 
 walk-well : (t : Tables) (f : Flags) (ms : List Move) (g : Target) → TurnsWell (walk t f ms g)
 unfolding walk
 walk-well t f [] g = tt
 walk-well t f (m ∷ rest) g = then-well (moveTo t f m g) (walk t f rest) (move-well t f m g) (walk-well t f rest)
 
-from-well : (t : Tables) (f : Flags) (unknown : Status) (i : Option ℕ) (rest : List Segment) → Known unknown → TurnsWell (fromTag t f unknown i rest)
+from-well : (t : Tables) (f : Flags) (unknown : Status) (i : Option ℕ) (rest : List Segment) → Refuses unknown → TurnsWell (fromTag t f unknown i rest)
 from-well t f unknown none rest k = k
 from-well t f unknown (some i) rest k = walk-well t f (moves rest) (wholeTag t i)
 
 instance-well : (t : Tables) (f : Flags) (scope : ℕ) (id : Option ℕ) (rest : List Segment) → TurnsWell (byInstance t f scope id rest)
 unfolding isStatus some-of
-instance-well t f scope none rest = refl
-instance-well t f scope (some id) rest = pick-all TurnsWell (takesInstances f) (from-well t f _ (tagWithId t scope id) rest refl) refl
+instance-well t f scope none rest = (refl, refl)
+instance-well t f scope (some id) rest = pick-all TurnsWell (takesInstances f) (from-well t f _ (tagWithId t scope id) rest (refl, refl)) (refl, refl)
 
 name-well : (t : Tables) (f : Flags) (scope : ℕ) (name : Option (List ℕ)) (s : Segment) (rest : List Segment) → TurnsWell (byName t f scope name s rest)
 unfolding isStatus some-of
 name-well t f scope none s rest = instance-well t f scope (symbolInstance (objectOf (s ∷ rest))) (drop 1 rest)
-name-well t f scope (some name) s rest = from-well t f _ (tagNamed t scope name) rest refl
+name-well t f scope (some name) s rest = from-well t f _ (tagNamed t scope name) rest (refl, refl)
 
 scope-well : (t : Tables) (f : Flags) (scope : ℕ) (path : List Segment) → TurnsWell (inScope t f scope path)
 unfolding inScope isStatus some-of
-scope-well t f scope [] = refl
+scope-well t f scope [] = (refl, refl)
 scope-well t f scope (s ∷ rest) = name-well t f scope (nameOf s) s rest
 
 program-well : (t : Tables) (f : Flags) (k : Option ℕ) (rest : List Segment) → TurnsWell (inProgram t f k rest)
 unfolding isStatus some-of
-program-well t f none rest = refl
+program-well t f none rest = (refl, refl)
 program-well t f (some k) rest = scope-well t f (suc k) rest
 
 scoped-well : (t : Tables) (f : Flags) (name : Option (List ℕ)) (s : Segment) (rest : List Segment) → TurnsWell (scopedBy t f name s rest)
@@ -210,12 +217,12 @@ scoped-well t f (some name) s rest =
 
 resolve-well : (t : Tables) (f : Flags) (path : List Segment) → TurnsWell (resolve t f path)
 unfolding resolve isStatus some-of
-resolve-well t f [] = refl
+resolve-well t f [] = (refl, refl)
 resolve-well t f (s ∷ rest) = scoped-well t f (nameOf s) s rest
 
-target-well : (t : Tables) (f : Flags) (writes : Bool) (path : List Segment) → TurnsWell (tagTarget t f writes path)
+pub target-well : (t : Tables) (f : Flags) (writes : Bool) (path : List Segment) → TurnsWell (tagTarget t f writes path)
 unfolding tagTarget permitted isStatus some-of
-target-well t f writes path = then-well (resolve t f path) (permitted t f writes) (resolve-well t f path) (λ g. pick-all TurnsWell (isDenied t f writes g) refl tt)
+target-well t f writes path = then-well (resolve t f path) (permitted t f writes) (resolve-well t f path) (λ g. pick-all TurnsWell (isDenied t f writes g) (refl, refl) tt)
 
 -- ---- templates, attribute lists, pages
 
@@ -290,7 +297,7 @@ proper-page-from t service (some s) body limit = proper-page-of t service s (cou
 
 proper-target : (t : Tables) (memory : List ℕ) (service : ℕ) (r : Resolved) (body : List ℕ) (limit : ℕ) → TurnsWell r
     → Proper limit (onTarget t memory service r body limit .reply)
-proper-target t memory service (turned status) body limit w = proper-fail limit service status w
+proper-target t memory service (turned status) body limit w = proper-fail limit service status (w .0)
 proper-target t memory service (found g) body limit w =
     pick-all (λ (a : Answer). Proper limit (a .reply)) (isRead service) (proper-read (t .structures) memory service g body limit)
     (pick-all (λ (a : Answer). Proper limit (a .reply)) (eqb service 0x4E) (proper-store limit service (maskedStored memory g body) memory (masked-well memory g body))

@@ -1,34 +1,38 @@
--- The theorems that specs/Promises.antt states, but for `Target-lies-in-its-tag` (Inside) and `Memory-keeps-its-length` (Stored).
+-- The theorems that specs/Promises.antt states, but for `Not-refused` (Granted), `Target-lies-in-its-tag` (Inside) and
+-- `Memory-keeps-its-length` (Stored).
 -- Assumes nothing.
 use mathlib.Core.Path.{_≡_, refl, sym, ap, _∙_, subst}
 use mathlib.Core.Logic.{_≢_}
 use mathlib.Core.Bool.{Bool, true, false}
 use mathlib.Core.List.{List, [], _∷_}
-use Prim.Native.Nat.{ℕ, zero, suc, _-_, _≤_, _<_}
+use mathlib.Core.Option.{Option, none, some}
+use Prim.Native.Nat.{ℕ, zero, suc, _+_, _-_, _*_, _≤_, _<_}
 use native.Mathlib.Omega.{arith}
 use lib.Dec.{ltb, leb, eqb}
-use lib.ListN.{getD}
-use borrow.Author.Tests.{ltb-false, leb-true, eqb-true}
+use lib.ListN.{length, getD, drop}
+use borrow.Author.Tests.{ltb-false, leb-true, eqb-true, ne-eqb}
 use Rattle.laws.specs.Tests.{every, some-of}
 use Rattle.laws.proofs.Chain.{by-test, pick-all}
 use Rattle.laws.proofs.Tests.{every-at}
+use Rattle.definition.specs.Bytes.{part}
 use Rattle.definition.specs.Reply.{Answer, reply}
-use Rattle.definition.specs.Segment.{Segment}
-use Rattle.definition.specs.Request.{request, requestOf}
+use Rattle.definition.specs.Segment.{Segment, segments}
+use Rattle.definition.specs.Request.{Request, malformed, request, requestOf, withPath}
 use Rattle.definition.specs.Tables.{Tables, Flags}
 use Rattle.definition.specs.Types.{atomicSize, isStructure, typeHeader}
 use Rattle.definition.specs.Masked.{masked, maskedStored}
 use Rattle.definition.specs.Resolve.{Resolved, found, turned}
 use Rattle.definition.specs.Access.{tagTarget}
 use Rattle.definition.specs.Write.{Stored, store, noStore, storeAnswer, writeStored}
-use Rattle.definition.specs.Answer.{isWrite, isRead, onTarget, tagService, answer}
+use Rattle.definition.specs.Envelope.{partAnswer}
+use Rattle.definition.specs.Answer.{isWrite, isRead, onTarget, tagService, partDispatch, answer}
 use Rattle.definition.specs.Entry.{Entered, replied, refuse, entry}
-use Rattle.definition.specs.Promises.{Refusal-changes-nothing, Reply-fits, Reply-has-a-status, Refused-write-changes-nothing, Masked-at-any-width, Element-sizes, Header-sizes}
+use Rattle.definition.specs.Promises.{Refusal-changes-nothing, Reply-fits, Reply-has-a-status, Refused-write-changes-nothing, Part-is-answer, Masked-at-any-width, Element-sizes, Header-sizes}
 use Rattle.definition.proofs.Enters.{Enters, stopped, taken, enters}
 use Rattle.definition.proofs.Replies.{Proper, plain-all, proper-answer}
 
 -- a refusal is no reply
-no-reply : {A : Type 0} (e : Entered) (number : ℕ) (buffer memory r : List ℕ) → e ≡ refuse number buffer memory → e .outcome ≡ replied r → A
+pub no-reply : {A : Type 0} (e : Entered) (number : ℕ) (buffer memory r : List ℕ) → e ≡ refuse number buffer memory → e .outcome ≡ replied r → A
 no-reply e number buffer memory r p q = absurd (let z : _≡_ {A = ℕ} 0 1 = cc (ap (λ (x : Entered). x .outcome) p) in omega arith)
 
 pub refusal-changes-nothing : Refusal-changes-nothing
@@ -91,15 +95,47 @@ alone-honest t f memory message limit service path body q w =
     (plain-all (Honest memory) t f memory service path body limit (λ r p n. refl)
     (target-honest t memory service (tagTarget t f (isWrite service) path) body limit))
 
+-- a message that decodes has its first byte as its service
+abbrev Parsed : List ℕ → Request → Type 0
+Parsed message malformed = Unit {0}
+Parsed message (request service path body) = service ≡ getD message 0 0
+
+with-path : (message : List ℕ) (o : Option (List Segment)) (body : List ℕ) → Parsed message (withPath (getD message 0 0) o body)
+with-path message none body = tt
+with-path message (some p) body = refl
+
+parsed : (message : List ℕ) → Parsed message (requestOf message)
+unfolding requestOf
+parsed message =
+    pick-all (Parsed message) (ltb (length message) (2 + 2 * getD message 1 0)) tt
+    (with-path message (segments (part message 2 (2 * getD message 1 0))) (drop (2 + 2 * getD message 1 0) message))
+
+write-honest : (t : Tables) (f : Flags) (memory message : List ℕ) (limit : ℕ) → isWrite (getD message 0 0) ≡ true → Honest memory (answer t f memory message limit)
+unfolding answer
+write-honest t f memory message limit w = go (requestOf message) refl (parsed message)
+  where
+    go : (r : Request) → requestOf message ≡ r → Parsed message r → Honest memory (answer t f memory message limit)
+    go malformed q p = rw q (λ n. refl)
+    go (request service path body) q p = alone-honest t f memory message limit service path body q (rw p w)
+
 pub refused-write-changes-nothing : Refused-write-changes-nothing
-refused-write-changes-nothing t f memory message limit buffer r service path body q w e n = go (enters t f memory message limit buffer)
+refused-write-changes-nothing t f memory message limit buffer r w e n = go (enters t f memory message limit buffer)
   where
     go : Enters t f memory message limit buffer → entry t f memory message limit buffer .memory ≡ memory
     go (stopped k low high p) = ap (λ (x : Entered). x .memory) p
     go (taken a b c d p) =
         let same : answer t f memory message limit .reply ≡ r = cc (ap (λ (x : Entered). x .outcome) p) in
         ap (λ (x : Entered). x .memory) p
-        ∙ alone-honest t f memory message limit service path body q w (subst (λ (l : List ℕ). getD l 2 0 ≢ 0) (sym same) n)
+        ∙ write-honest t f memory message limit w (subst (λ (l : List ℕ). getD l 2 0 ≢ 0) (sym same) n)
+
+-- the dispatcher of parts is the dispatcher without envelopes, and only 0x0A opens one
+pub part-is-answer : Part-is-answer
+unfolding answer partDispatch partAnswer
+part-is-answer t f memory message limit n = go (requestOf message) refl (parsed message)
+  where
+    go : (r : Request) → requestOf message ≡ r → Parsed message r → partAnswer (partDispatch t f) memory message limit ≡ answer t f memory message limit
+    go malformed q p = rw (q, ne-eqb (getD message 0 0) 0x0A n) refl
+    go (request service path body) q p = rw (q, p, ne-eqb (getD message 0 0) 0x0A n) refl
 
 -- ---- once for all widths
 

@@ -34,6 +34,6 @@ unfoldable pub numbers : (n : ℕ) → List ℕ → List ℕ
 numbers zero s = []
 numbers (suc n) s = u16At s 0 ∷ numbers n (drop 2 s)
 
--- a count of 16 bits and as many numbers of 16 bits; none if one of them is missing, and what follows is ignored [CIP]
+-- a count of 16 bits and as many numbers of 16 bits; none if one of them is missing, and what follows is ignored [01]
 unfoldable pub counted : List ℕ → Option (List ℕ)
 counted s = let n = u16At s 0 in pick (ltb (length s) (2 + 2 * n)) none (some (numbers n (drop 2 s)))

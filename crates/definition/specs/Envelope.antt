@@ -1,5 +1,6 @@
 -- Document 01, "Envelope" and items 6 to 8: several services in one message (0x0A on class 0x02 instance 1).
--- CIP Volume 1, Appendix A (Multiple_Service_Packet), defines the layout and status 0x1E; document 01 alone the parts' limits and 0x11.
+-- CIP Volume 1, Appendix A (Multiple_Service_Packet), defines the layout and status 0x1E; document 01 alone which offsets are turned away,
+-- the parts' limits and 0x11.
 -- `answer` is the dispatcher that a part goes back to. A part that starts with 0x0A is refused here, so a dispatcher without envelopes is enough.
 use mathlib.Core.Bool.{Bool}
 use mathlib.Core.List.{List, [], _∷_, _++_}
@@ -30,13 +31,13 @@ partsFrom body [] = []
 partsFrom body (o ∷ []) = part body o (length body - o) ∷ []
 partsFrom body (o ∷ (p ∷ rest)) = part body o (p - o) ∷ partsFrom body (p ∷ rest)
 
--- [CIP]
+-- [01]
 abbrev pub partsBy : (body : List ℕ) → Option (List ℕ) → Option (List (List ℕ))
 partsBy body none = none
 partsBy body (some offsets) =
     pick (ascending (2 + 2 * length offsets) offsets (length body)) (some (partsFrom body offsets)) none
 
--- none if count or offsets are missing, fall back, start inside the offsets or pass the end [CIP]
+-- none if count or offsets are missing, fall back, start inside the offsets or pass the end [01]
 unfoldable pub partsOf : (body : List ℕ) → Option (List (List ℕ))
 partsOf body = partsBy body (counted body)
 

@@ -1,6 +1,6 @@
 -- Document 01, "Symbol page": ascending IDs from the start ID; stops with 0x06 before an entry that does not fit; 0x11 if the first does not.
 -- 1756-PM020 (Get Instance Attribute List of the Symbol object) defines entries that ascend from a start and status 0x06; document 01 alone
--- defines 0x11, and a page with nothing due (status 0 at any limit).
+-- defines that a page stops before the first that does not fit, 0x11, and a page with nothing due (status 0 at any limit).
 use mathlib.Core.Bool.{Bool, false}
 use mathlib.Core.List.{List, [], _∷_, _++_}
 use Prim.Native.Nat.{ℕ, suc, _-_}
@@ -23,7 +23,7 @@ unfoldable pub bytesOf : List Entry → List ℕ
 bytesOf [] = []
 bytesOf (e ∷ es) = e .bytes ++ bytesOf es
 
--- the number of entries that fit, up to the first that does not [PM020]
+-- the number of entries that fit, up to the first that does not [01]
 unfoldable pub fitting : (space : ℕ) → List Entry → ℕ
 fitting space [] = 0
 fitting space (e ∷ es) = pick (leb (length (e .bytes)) space) (suc (fitting (space - length (e .bytes)) es)) 0

@@ -1,24 +1,28 @@
--- Theorems about the definition, each a named statement; proofs/Theorems, Inside and Stored prove them. Document 01, points 1 and 2, and its "Envelope and limit".
+-- Theorems about the definition, each a named statement; proofs/Theorems, Granted, Inside and Stored prove them. Points 1 to 3 are those of document 00:
+-- the first part is point 1, and what points 2 and 3 lean on follows.
 use mathlib.Core.Path.{_≡_}
-use mathlib.Core.Logic.{_≢_}
-use mathlib.Core.Bool.{Bool, true}
+use mathlib.Core.Logic.{_≢_, _↔_, _⊎_}
+use mathlib.Core.Bool.{Bool, true, false}
 use mathlib.Core.List.{List, [], _∷_}
 use Prim.Native.Nat.{ℕ, _+_, _*_, _≤_, _<_}
 use lib.Bits.{bitOr, bitAnd}
 use lib.Dec.{eqb}
 use lib.ListN.{length, getD}
 use Rattle.laws.specs.Tests.{some-of}
+use Rattle.definition.specs.Bytes.{u16At, u32At}
 use Rattle.definition.specs.Reply.{room}
 use Rattle.definition.specs.Segment.{Segment}
-use Rattle.definition.specs.Request.{request, requestOf}
+use Rattle.definition.specs.Request.{request, requestOf, isTagPath}
 use Rattle.definition.specs.Tables.{Tables, Flags, Row, noBit, tagOffset}
 use Rattle.definition.specs.Types.{atomicSize, isAtomic, elementSize, typeHeader}
 use Rattle.definition.specs.Lookup.{tagAt}
 use Rattle.definition.specs.Valid.{valid, tagEnd}
 use Rattle.definition.specs.Resolve.{Target, found}
 use Rattle.definition.specs.Access.{tagTarget}
+use Rattle.definition.specs.Read.{Selection, granted, askTarget}
 use Rattle.definition.specs.Masked.{masked}
-use Rattle.definition.specs.Answer.{isWrite}
+use Rattle.definition.specs.Envelope.{envelopeService, partAnswer}
+use Rattle.definition.specs.Answer.{isWrite, partDispatch, answer}
 use Rattle.definition.specs.Entry.{refused, replied, entry}
 
 -- ---- for all tables, flags, memories, messages, limits and buffers
@@ -51,13 +55,35 @@ Reply-has-a-status =
     (t : Tables) (f : Flags) (memory message : List ℕ) (limit : ℕ) (buffer r : List ℕ)
     → entry t f memory message limit buffer .outcome ≡ replied r → (4 ≤ length r) × (isStatus (getD r 2 0) ≡ true)
 
--- a refused 0x4D, 0x53 or 0x4E sent alone leaves tag memory as it was, on a tag path and on any other
+-- a refused 0x4D, 0x53 or 0x4E sent alone leaves tag memory as it was, whatever its path: also one that does not decode
 abbrev pub Refused-write-changes-nothing : Type 0
 Refused-write-changes-nothing =
-    (t : Tables) (f : Flags) (memory message : List ℕ) (limit : ℕ) (buffer r : List ℕ) (service : ℕ) (path : List Segment) (body : List ℕ)
-    → requestOf message ≡ request service path body → isWrite service ≡ true
+    (t : Tables) (f : Flags) (memory message : List ℕ) (limit : ℕ) (buffer r : List ℕ)
+    → isWrite (getD message 0 0) ≡ true
     → entry t f memory message limit buffer .outcome ≡ replied r → getD r 2 0 ≢ 0x00
     → entry t f memory message limit buffer .memory ≡ memory
+
+-- a part of an envelope that does not start 0x0A is answered as the dispatcher answers the same bytes alone
+abbrev pub Part-is-answer : Type 0
+Part-is-answer =
+    (t : Tables) (f : Flags) (memory message : List ℕ) (limit : ℕ)
+    → getD message 0 0 ≢ envelopeService → partAnswer (partDispatch t f) memory message limit ≡ answer t f memory message limit
+
+-- ---- point 3's first read: where it is not refused
+
+-- a tag path whose target the definition grants, for an element count: what is selected
+pub record Grants (t : Tables) (f : Flags) (path : List Segment) (elements : ℕ) : Type 0 where
+  pub tag-path : isTagPath path ≡ true
+  pub selected : Selection
+  pub granted-is : askTarget (t .structures) (tagTarget t f false path) elements ≡ granted selected
+
+-- once past the entry, a 0x52 at offset 0 has status 0x00 or 0x06 exactly where its path and element count are granted
+abbrev pub Not-refused : Type 0
+Not-refused =
+    (t : Tables) (f : Flags) (memory message : List ℕ) (limit : ℕ) (buffer r : List ℕ) (path : List Segment) (body : List ℕ)
+    → requestOf message ≡ request 0x52 path body → 6 ≤ length body → u32At body 2 ≡ 0
+    → entry t f memory message limit buffer .outcome ≡ replied r
+    → ((getD r 2 0 ≡ 0x00) ⊎ (getD r 2 0 ≡ 0x06)) ↔ Grants t f path (u16At body 0)
 
 -- ---- a target lies in its tag's bytes, and these in tag memory
 

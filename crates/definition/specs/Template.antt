@@ -9,7 +9,7 @@ use Rattle.definition.specs.Bytes.{u16At, u32At, part}
 use Rattle.definition.specs.Reply.{reply, fail, success, partial, tooLarge, tooShort, beyondEnd}
 use Rattle.definition.specs.Tables.{Row, templateStart, templateLength}
 
--- `due` bytes from an offset of a template, cut to s = limit - 4 with no rounding [PM020]
+-- `due` bytes from an offset of a template, cut to s = limit - 4 with no rounding [PM020]; 0x11 if any is due and s is 0 [01]
 unfoldable pub sendTemplate : (templates : List ℕ) → Row → (service offset due limit : ℕ) → List ℕ
 sendTemplate templates r service offset due limit =
     let s = limit - 4 in
