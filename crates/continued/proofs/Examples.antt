@@ -1,144 +1,229 @@
--- Continued reads and pages of the pallet bench, computed from the definition; the premises of the two theorems can be met.
+-- Continued reads and pages of the pallet bench, computed from the definition: lists that meet the premises of the theorems.
 -- Assumes nothing.
-use mathlib.Core.Path.{_≡_, refl}
-use mathlib.Core.List.{List, [], _∷_, _++_, map}
+use mathlib.Core.Path.{_≡_, refl, sym, subst}
+use mathlib.Core.Logic.{inl, inr}
+use mathlib.Core.List.{List, [], _∷_, _++_, map, append-nil}
 use mathlib.Core.Option.{some}
-use Prim.Native.Nat.{ℕ, zero, suc, _+_}
+use Prim.Native.Nat.{ℕ, zero, suc, _+_, _≤_, _<_}
 use native.Mathlib.Omega.{arith}
 use lib.Dec.{lit≤}
-use lib.ListN.{length, replicate}
+use lib.ListN.{length, replicate, length-append}
+use borrow.Author.Tests.{lt-ltb}
 use Rattle.definition.specs.Fragment.{space, replyCount}
-use Rattle.definition.specs.Pallet.{pallet, palletFlags, upFrom, palletMemory, palletStart, count, rows, cellRun}
+use Rattle.definition.specs.Pallet.{pallet, palletFlags, palletNames, palletTagNames, upFrom, palletMemory, palletStart, count, rows, cellRun}
 use Rattle.definition.specs.Computed.{compute}
-use Rattle.definition.specs.Read.{Selection, selectedBytes}
-use Rattle.definition.specs.Segment.{class, instance, symbol, segments}
+use Rattle.definition.specs.Segment.{Segment, class, instance, symbol}
+use Rattle.definition.specs.Tables.{Tables}
+use Rattle.definition.specs.Read.{selectedBytes}
 use Rattle.definition.specs.Symbols.{due}
-use Rattle.continued.specs.Reads.{Sent, Turn, ours, other, Answer, joined, talk, Fair, Delivered}
-use Rattle.continued.specs.Pages.{FairPages, Listed}
-use Rattle.continued.specs.Point3.{respond, readRequest, Readable, Reads, pageRequest, Listable, Starts-at, Pages}
+use Rattle.definition.specs.Entry.{Entered, refuse, entry}
+use Rattle.definition.specs.Promises.{Grants}
+use Rattle.continued.specs.Reads.{Sent, Turn, ours, other, Answer, joined, heard, talk, Fair}
+use Rattle.continued.specs.Pages.{FairPages}
+use Rattle.continued.specs.Point3.{Memory, respond, hears, leaves, Event, message, changed, steps, Between, Asks, Reads, FairReads, ReadsDeliver, AsksPage, Pages, FairList, PagesDeliver, Encodes, readRequest, pageRequest}
 use Rattle.continued.proofs.Point3.{continued-reads, continued-pages}
+use Rattle.continued.proofs.Requests.{exact-asks}
 
 -- all that has to compute: `unfolding computed` opens what this line names
-computed : Unit {0}
+unfoldable pub computed : Unit {0}
 unfolding compute pallet palletFlags palletMemory palletStart upFrom respond readRequest pageRequest joined talk Fair FairPages
 computed = tt
 
-abbrev sent : (request : List ℕ) (limit : ℕ) → Sent
+-- a message with a reply buffer of 110 bytes
+abbrev pub sent : (request : List ℕ) (limit : ℕ) → Sent
 sent request limit = record { request = request; limit = limit; buffer = replicate 110 0xEE }
 
 -- the newest first
-abbrev answers : (h : ℕ) → List Turn → List Answer
-answers h turns = talk (respond pallet palletFlags) h palletStart [] turns
+abbrev answers : Tables → (h : ℕ) → List (Turn Event) → List Answer
+answers t h turns = talk (hears t palletFlags) (leaves t palletFlags) (steps t palletFlags) h palletStart [] turns
 
 abbrev sizes : List Answer → List ℕ
 sizes l = map (λ (a : Answer). length (a .bytes)) l
 
 -- ---- reads: all of `Rows`
 
-abbrev row : (limit offset : ℕ) → Turn
-row limit offset = ours (sent (readRequest rows 10 offset) limit)
+abbrev pub rowsPath : List Segment
+rowsPath = symbol (0x52 ∷ 0x6F ∷ 0x77 ∷ 0x73 ∷ []) ∷ []
 
--- at limit 22, with a write to `Count`, an entry refusal, and a write of a wrong type to `Rows` among them
-abbrev turns22 : List Turn
-turns22 =
-    row 22 0
-    ∷ other (sent (0x4D ∷ 0x04 ∷ count ++ 0xC4 ∷ 0x00 ∷ 0x01 ∷ 0x00 ∷ 1 ∷ 2 ∷ 3 ∷ 4 ∷ []) 100)
-    ∷ row 65536 16
-    ∷ row 22 16
-    ∷ other (sent (0x4D ∷ 0x03 ∷ rows ++ 0xC3 ∷ 0x00 ∷ 0x01 ∷ 0x00 ∷ 9 ∷ 9 ∷ []) 100)
-    ∷ row 22 32
+unfoldable pub granted-rows : Grants pallet palletFlags rowsPath 10
+unfolding computed
+granted-rows = record { tag-path = refl; selected = record { start = 4; size = 40; bit = 8; header = 0xC4 ∷ 0x00 ∷ [] }; granted-is = refl }
+
+rows-encode : Encodes rows rowsPath
+unfolding computed
+rows-encode = record { whole-words = refl; one-byte = lit≤ tt; decodes = refl }
+
+-- the read from an offset, at a limit, with a reply buffer, and with bytes behind its fields
+abbrev asking : (limit offset : ℕ) (buffer more : List ℕ) → Sent
+asking limit offset buffer more = record { request = readRequest rows 10 offset ++ more; limit = limit; buffer = buffer }
+
+asks : (offset : ℕ) (more : List ℕ) → offset < 4294967296 → Asks rowsPath 10 (readRequest rows 10 offset ++ more) offset
+asks offset more low = exact-asks rows rowsPath 10 offset more rows-encode (lit≤ tt) low
+
+-- writes 14 to `Count`
+abbrev writeCount : List ℕ
+writeCount = 0x4D ∷ 0x04 ∷ count ++ 0xC4 ∷ 0x00 ∷ 0x01 ∷ 0x00 ∷ 0x0E ∷ 0x00 ∷ 0x00 ∷ 0x00 ∷ []
+
+abbrev inEnvelope : List ℕ → List ℕ
+inEnvelope part = 0x0A ∷ 0x02 ∷ 0x20 ∷ 0x02 ∷ 0x24 ∷ 0x01 ∷ 0x01 ∷ 0x00 ∷ 0x04 ∷ 0x00 ∷ part
+
+-- a limit too large and a buffer too short; an envelope that writes elsewhere, another 0x52 of the same path, a write of a wrong type to it; 16 bytes at
+-- limit 22 by a read with two bytes behind its fields; somebody else changes `Count` and `Cell`; 3 bytes at limit 9, and the rest at 100; then `Rows` is zeroed
+abbrev turns : List (Turn Event)
+turns =
+    ours (asking 65536 0 [] [])
+    ∷ ours (asking 22 0 (replicate 21 7) [])
+    ∷ other (message (sent (inEnvelope writeCount) 100))
+    ∷ other (message (sent (readRequest rows 10 8) 22))
+    ∷ other (message (sent (0x4D ∷ 0x03 ∷ rows ++ 0xC3 ∷ 0x00 ∷ 0x01 ∷ 0x00 ∷ 9 ∷ 9 ∷ []) 100))
+    ∷ ours (asking 22 0 (replicate 22 7) (0xAA ∷ 0xBB ∷ []))
+    ∷ other (changed (palletMemory (9 ∷ 9 ∷ 9 ∷ 9 ∷ []) (8 ∷ 8 ∷ 8 ∷ 8 ∷ [])))
+    ∷ ours (asking 9 16 (replicate 30 7) [])
+    ∷ ours (asking 65535 19 (replicate 12 7) [])
+    ∷ ours (asking 100 19 (replicate 100 7) [])
+    ∷ other (changed (replicate 48 0))
     ∷ []
 
-rows22 : (sizes (answers 2 turns22) ≡ 8 ∷ 16 ∷ 16 ∷ []) × (joined (answers 2 turns22) ≡ upFrom 1 40)
+rows-come : (sizes (answers pallet 2 turns) ≡ 21 ∷ 3 ∷ 16 ∷ []) × (joined (answers pallet 2 turns) ≡ upFrom 1 40)
 unfolding computed
-rows22 = (refl, refl)
+rows-come = (refl, refl)
 
--- at limit 9
-turns9 : (n offset : ℕ) → List Turn
+fair : FairReads pallet palletFlags (Reads rowsPath 10) (granted-rows .selected) palletStart turns
+unfolding computed granted-rows
+fair =
+    (asks 0 [] (lit≤ tt), omega arith, λ r. absurd r,
+    (asks 0 [] (lit≤ tt), omega arith, λ r. absurd r,
+    inr (refl, tt, inr (refl, tt, inr (refl, tt,
+    (asks 0 (0xAA ∷ 0xBB ∷ []) (lit≤ tt), omega arith, λ r. lit≤ tt,
+    inr (refl, refl,
+    (asks 16 [] (lit≤ tt), omega arith, λ r. lit≤ tt,
+    (asks 19 [] (lit≤ tt), omega arith, λ r. absurd r,
+    (asks 19 [] (lit≤ tt), omega arith, λ r. lit≤ tt, inl tt))))))))))
+
+-- before them a read that is too long for the entry: refusal 1
+module _ (more : List ℕ) (many : 65536 ≤ length more) where
+  abbrev long : Sent
+  long = asking 22 0 (replicate 22 7) more
+
+  too-long : respond pallet palletFlags long palletStart ≡ refuse 1 (replicate 22 7) palletStart
+  unfolding respond entry
+  too-long = rw (lt-ltb 65535 (length (readRequest rows 10 0 ++ more)) (omega (arith, length-append (readRequest rows 10 0) more))) refl
+
+  fair-long : FairReads pallet palletFlags (Reads rowsPath 10) (granted-rows .selected) palletStart (ours long ∷ turns)
+  unfolding Fair joined granted-rows
+  fair-long = (
+    asks 0 more (lit≤ tt),
+    omega arith,
+    λ r. lit≤ tt,
+    subst
+        (λ (e : Entered). Fair (hears pallet palletFlags) (leaves pallet palletFlags) (steps pallet palletFlags) (Reads rowsPath 10)
+        (selectedBytes (granted-rows .selected)) Between (length (granted-rows .selected .header)) (e .memory)
+        (heard (length (granted-rows .selected .header)) 22 (e .outcome) []) turns)
+        (sym too-long) fair,
+  )
+
+  -- so the theorem applies
+  rows-delivered : ReadsDeliver pallet palletFlags (granted-rows .selected) palletStart (ours long ∷ turns)
+  unfolding computed
+  rows-delivered = continued-reads pallet palletFlags rowsPath 10 granted-rows palletStart (ours long ∷ turns) refl fair-long
+
+-- by the exact bytes, at limit 9
+abbrev pub row : (limit offset : ℕ) → Turn Event
+row limit offset = ours (sent (readRequest rows 10 offset) limit)
+
+pub row-asks : (offset : ℕ) → offset < 4294967296 → Asks rowsPath 10 (readRequest rows 10 offset) offset
+row-asks offset low = rw (← append-nil (readRequest rows 10 offset)) (asks offset [] low)
+
+turns9 : (n offset : ℕ) → List (Turn Event)
 turns9 zero offset = []
 turns9 (suc n) offset = row 9 offset ∷ turns9 n (offset + 3)
 
-rows9 : (length (answers 2 (turns9 14 0)) ≡ 14) × (joined (answers 2 (turns9 14 0)) ≡ upFrom 1 40) × (replyCount 40 (space 2 9) ≡ 14)
+rows9 : (length (answers pallet 2 (turns9 14 0)) ≡ 14) × (joined (answers pallet 2 (turns9 14 0)) ≡ upFrom 1 40) × (replyCount 40 (space 2 9) ≡ 14)
 unfolding computed turns9
 rows9 = (refl, refl, refl)
 
--- the premises can be met
-abbrev selected : Selection
-selected = record { start = 4; size = 40; bit = 8; header = 0xC4 ∷ 0x00 ∷ [] }
+-- ---- the bit `Run` of `Cell`, by `Cell` and then by instance: one byte, before a write that turns it off
 
-readable : Readable pallet palletFlags palletStart rows 10 selected
+abbrev runPath : List Segment
+runPath = symbol (0x43 ∷ 0x65 ∷ 0x6C ∷ 0x6C ∷ []) ∷ symbol (0x52 ∷ 0x75 ∷ 0x6E ∷ []) ∷ []
+
+granted-run : Grants pallet palletFlags runPath 1
 unfolding computed
-readable = record {
-  tables = refl;
-  decoded = symbol (0x52 ∷ 0x6F ∷ 0x77 ∷ 0x73 ∷ []) ∷ [];
-  encodes = record { whole-words = refl; one-byte = lit≤ tt; decodes = refl };
-  tag-path = refl;
-  count = lit≤ tt;
-  grants = refl;
-}
+granted-run = record { tag-path = refl; selected = record { start = 44; size = 1; bit = 2; header = 0xC1 ∷ 0x00 ∷ [] }; granted-is = refl }
 
-fair22 : Fair (respond pallet palletFlags) (Reads rows 10) (selectedBytes selected) 2 palletStart [] turns22
-unfolding computed
-fair22 = (
-  refl,
-  omega arith,
-  λ r. lit≤ tt,
-  (refl, (refl, omega arith, λ r. absurd r, (refl, omega arith, λ r. lit≤ tt, (refl, (refl, omega arith, λ r. lit≤ tt, tt))))),
-)
-
--- so the theorem applies
-rows22-delivered : Delivered (selectedBytes selected palletStart) 2 (answers 2 turns22)
-rows22-delivered = continued-reads pallet palletFlags rows 10 selected palletStart turns22 readable fair22
-
--- ---- the bit `Run` of `Cell`
-
-cell-run : answers 2 (ours (sent (readRequest cellRun 1 0) 9) ∷ [])
-    ≡ record { limit = 9; status = 0; bytes = 1 ∷ [] } ∷ []
-unfolding computed
-cell-run = refl
-
--- ---- pages: the controller's symbols with names and types; two of them fit at limit 29
-
-abbrev from-id : ℕ → List ℕ
-from-id id = 0x20 ∷ 0x6B ∷ 0x24 ∷ id ∷ []
-
-abbrev attributes : List ℕ
-attributes = 1 ∷ 2 ∷ []
-
-abbrev page : (id : ℕ) → Turn
-page id = ours (sent (pageRequest (from-id id) attributes) 29)
-
-abbrev pages : List Turn
-pages = page 0 ∷ page 3 ∷ []
-
-two-pages : map (λ (a : Answer). a .bytes) (answers 0 pages)
-    ≡ (0xFF ∷ 0xFF ∷ 0xFF ∷ 0xFF ∷ 0x04 ∷ 0x00 ∷ 0x43 ∷ 0x65 ∷ 0x6C ∷ 0x6C ∷ 0x00 ∷ 0x81 ∷ [])
-    ∷ (0x01 ∷ 0x00 ∷ 0x00 ∷ 0x00 ∷ 0x05 ∷ 0x00 ∷ 0x43 ∷ 0x6F ∷ 0x75 ∷ 0x6E ∷ 0x74 ∷ 0xC4 ∷ 0x00
-    ∷ 0x02 ∷ 0x00 ∷ 0x00 ∷ 0x00 ∷ 0x04 ∷ 0x00 ∷ 0x52 ∷ 0x6F ∷ 0x77 ∷ 0x73 ∷ 0xC4 ∷ 0x20 ∷ [])
+abbrev runTurns : List (Turn Event)
+runTurns =
+    ours (sent (readRequest cellRun 1 0) 65536)
+    ∷ other (message (sent writeCount 100))
+    ∷ ours (sent (readRequest cellRun 1 0) 9)
+    ∷ other (message (sent (0x4D ∷ 0x06 ∷ cellRun ++ 0xC1 ∷ 0x00 ∷ 0x01 ∷ 0x00 ∷ 0 ∷ []) 100))
     ∷ []
-unfolding computed
-two-pages = refl
 
-listable : Listable pallet palletStart attributes
+run-comes : answers pallet 2 runTurns ≡ record { limit = 9; status = 0; bytes = 1 ∷ [] } ∷ []
 unfolding computed
-listable = record { tables = refl; count = lit≤ tt; accepted = refl }
+run-comes = refl
 
-starts : (id : ℕ) → segments (from-id id) ≡ some (class 0x6B ∷ instance id ∷ []) → Starts-at pallet 0 id (from-id id)
+run-asks : Asks runPath 1 (readRequest cellRun 1 0) 0
 unfolding computed
-starts id e = record {
-  decoded = class 0x6B ∷ instance id ∷ [];
-  encodes = record { whole-words = refl; one-byte = lit≤ tt; decodes = e };
-  starts = refl;
+run-asks = record { body = 1 ∷ 0 ∷ 0 ∷ 0 ∷ 0 ∷ 0 ∷ []; is = refl; fields = lit≤ tt; count-is = refl; offset-is = refl }
+
+fair-run : FairReads pallet palletFlags (Reads runPath 1) (granted-run .selected) palletStart runTurns
+unfolding computed granted-run
+fair-run = (run-asks, omega arith, λ r. absurd r, inr (refl, tt, (run-asks, omega arith, λ r. lit≤ tt, inl tt)))
+
+run-delivered : ReadsDeliver pallet palletFlags (granted-run .selected) palletStart runTurns
+unfolding computed
+run-delivered = continued-reads pallet palletFlags runPath 1 granted-run palletStart runTurns refl fair-run
+
+-- ---- pages: the bench with a program `Run`, to whose scope `Rows` and `Cell` belong; names and types of these, one of them at limit 16
+
+hall : Tables
+unfolding pallet
+hall = record {
+  structures = pallet .structures;
+  members = pallet .members;
+  programs = (8 ∷ 3 ∷ []) ∷ [];
+  tags =
+    (0 ∷ 0 ∷ 5 ∷ 1 ∷ 0xC4 ∷ 0 ∷ 0 ∷ 0 ∷ 1 ∷ 0 ∷ 0 ∷ 0 ∷ [])
+    ∷ (1 ∷ 5 ∷ 4 ∷ 2 ∷ 0xC4 ∷ 10 ∷ 0 ∷ 0 ∷ 10 ∷ 0 ∷ 0 ∷ 4 ∷ [])
+    ∷ (1 ∷ 9 ∷ 4 ∷ 0xFFFFFFFF ∷ 0x100 ∷ 0 ∷ 0 ∷ 0 ∷ 1 ∷ 0 ∷ 0 ∷ 44 ∷ [])
+    ∷ [];
+  others = [];
+  names = palletNames;
+  tagNames = palletTagNames;
+  templates = pallet .templates;
 }
 
-fair-pages : FairPages (respond pallet palletFlags) (Pages pallet 0 attributes) (due pallet 0 attributes 0) 0 palletStart [] pages
-unfolding computed
-fair-pages = (
-  (from-id 0, starts 0 refl, refl),
-  omega arith,
-  λ r. (lit≤ tt, (lit≤ tt, (lit≤ tt, tt))),
-  ((1, lit≤ tt, refl, (from-id 3, starts 3 refl, refl)), omega arith, λ r. (lit≤ tt, (lit≤ tt, (lit≤ tt, tt))), tt),
-)
+-- `Program:run`, class 0x6B and a start ID
+abbrev runFrom : ℕ → List ℕ
+runFrom id =
+    0x91 ∷ 0x0B ∷ 0x50 ∷ 0x72 ∷ 0x6F ∷ 0x67 ∷ 0x72 ∷ 0x61 ∷ 0x6D ∷ 0x3A ∷ 0x72 ∷ 0x75 ∷ 0x6E ∷ 0x00 ∷ 0x20 ∷ 0x6B ∷ 0x24 ∷ id ∷ []
 
-pages-listed : Listed (due pallet 0 attributes 0) (answers 0 pages)
-pages-listed = continued-pages pallet palletFlags 0 attributes 0 palletStart pages listable fair-pages
+abbrev page : (limit id : ℕ) (more : List ℕ) → Turn Event
+page limit id more = ours (sent (pageRequest (runFrom id) (1 ∷ 2 ∷ []) ++ more) limit)
+
+abbrev pages : List (Turn Event)
+pages = page 65536 0 [] ∷ page 16 0 (0xAA ∷ []) ∷ other (changed (replicate 48 3)) ∷ page 100 3 [] ∷ other (message (sent writeCount 100)) ∷ []
+
+pages-come : map (λ (a : Answer). a .bytes) (answers hall 0 pages)
+    ≡ (0xFF ∷ 0xFF ∷ 0xFF ∷ 0xFF ∷ 0x04 ∷ 0x00 ∷ 0x43 ∷ 0x65 ∷ 0x6C ∷ 0x6C ∷ 0x00 ∷ 0x81 ∷ [])
+    ∷ (0x02 ∷ 0x00 ∷ 0x00 ∷ 0x00 ∷ 0x04 ∷ 0x00 ∷ 0x52 ∷ 0x6F ∷ 0x77 ∷ 0x73 ∷ 0xC4 ∷ 0x20 ∷ [])
+    ∷ []
+unfolding computed hall
+pages-come = refl
+
+abbrev segmentsFromId : ℕ → List Segment
+segmentsFromId id = symbol (0x50 ∷ 0x72 ∷ 0x6F ∷ 0x67 ∷ 0x72 ∷ 0x61 ∷ 0x6D ∷ 0x3A ∷ 0x72 ∷ 0x75 ∷ 0x6E ∷ []) ∷ class 0x6B ∷ instance id ∷ []
+
+fair-pages : FairList hall palletFlags (Pages hall 1 (1 ∷ 2 ∷ [])) 1 (1 ∷ 2 ∷ []) 0 palletStart pages
+unfolding computed hall
+fair-pages =
+    (record { path = segmentsFromId 0; body = 2 ∷ 0 ∷ 1 ∷ 0 ∷ 2 ∷ 0 ∷ []; is = refl; starts = refl; list-is = refl }, omega arith, λ r. absurd r,
+    (record { path = segmentsFromId 0; body = 2 ∷ 0 ∷ 1 ∷ 0 ∷ 2 ∷ 0 ∷ 0xAA ∷ []; is = refl; starts = refl; list-is = refl }, omega arith, λ r. (lit≤ tt, (lit≤ tt, tt)),
+    inr (refl, refl,
+    ((0, lit≤ tt, refl, record { path = segmentsFromId 3; body = 2 ∷ 0 ∷ 1 ∷ 0 ∷ 2 ∷ 0 ∷ []; is = refl; starts = refl; list-is = refl }), omega arith,
+    λ r. (lit≤ tt, (lit≤ tt, tt)), inl tt))))
+
+pages-listed : PagesDeliver hall palletFlags 1 (1 ∷ 2 ∷ []) 0 palletStart pages
+unfolding computed hall
+pages-listed = continued-pages hall palletFlags 1 (1 ∷ 2 ∷ []) 0 palletStart pages refl refl fair-pages

@@ -6,3 +6,4 @@ pub mod Requests
 pub mod Point3
 pub mod Examples
 pub mod Program
+pub mod Wrong

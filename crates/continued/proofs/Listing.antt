@@ -1,4 +1,4 @@
--- The statement on the symbol pages of any controller: `page-law` is all that the proof asks of its definition.
+-- The statement on the symbol pages of any controller and any events: `page-law` is what the proof asks of its definition, and that ours leave the symbols.
 -- Assumes nothing.
 use mathlib.Core.Path.{_≡_, refl, sym, ap, _∙_}
 use mathlib.Core.Logic.{_↔_, _≢_, _⊎_, inl, inr}
@@ -16,9 +16,10 @@ use Rattle.laws.proofs.Chain.{pick-all}
 use Rattle.laws.proofs.Sorted.{All-map, All-drop, All-from, from-next}
 use Rattle.definition.specs.Reply.{reply}
 use Rattle.definition.specs.Page.{Entry, idOf, bytesOf, fitting, pageReply}
-use Rattle.definition.specs.Entry.{Outcome, refused, replied, Entered}
-use Rattle.continued.specs.Reads.{Memory, Sent, Turn, ours, other, Answer, joined, lastStatus, Each, heard, Replied, talk}
+use Rattle.definition.specs.Entry.{Outcome, refused, replied}
+use Rattle.continued.specs.Reads.{Sent, Turn, ours, other, Answer, joined, lastStatus, Each, heard, Replied, talk}
 use Rattle.continued.specs.Pages.{Starts, FairPages, Listed}
+use Rattle.continued.proofs.Talk.{quiet-talk}
 use Rattle.continued.proofs.Entries.{bytes-append, bytes-count, fitting-le, fitting-some, fits-first}
 
 -- the answered page of some entries
@@ -144,45 +145,52 @@ module _ (due : List Entry) where
     few = few c;
   }
 
--- ---- the list of messages
+-- ---- the list of turns
 
-module _ (respond : Sent → Memory → Entered) (pages : List ℕ → ℕ → Type 0) (service : ℕ)
-    (symbols : List Entry) (sorted : Sorted idOf symbols) (some-bytes : All (λ e. 0 < length (e .bytes)) symbols) (first : ℕ)
-    (page-law : (s : Sent) (m : Memory) (id : ℕ) → pages (s .request) id → Replied (respond s m .outcome)
-    → respond s m .outcome ≡ replied (pageReply service (from idOf id symbols) (s .limit))) where
-  abbrev Due : List Entry
-  Due = from idOf first symbols
+-- `page-law`: a page from a start ID on, answered at a limit. `Fits`: the states that it holds of, which ours and what may fall between keep
+module _ {State Event : Type 0} (hear : Sent → State → Outcome) (after : Sent → State → State) (step : Event → State → State)
+    (pages : State → Sent → ℕ → Type 0) (symbols : State → List Entry) (service first : ℕ) (Fits : State → Type 0) (between : Event → State → Type 0)
+    (keeps : (s : Sent) (m : State) → Fits m → Fits (after s m))
+    (stays : (e : Event) (m : State) → between e m → Fits m → Fits (step e m))
+    (sorted : (m : State) → Fits m → Sorted idOf (symbols m))
+    (some-bytes : (m : State) → Fits m → All (λ e. 0 < length (e .bytes)) (symbols m))
+    (page-law : (s : Sent) (m : State) (id : ℕ) → Fits m → pages m s id → Replied (hear s m)
+    → hear s m ≡ replied (pageReply service (from idOf id (symbols m)) (s .limit)))
+    (kept : (s : Sent) (m : State) → Fits m → symbols (after s m) ≡ symbols m) where
+  abbrev dueIn : State → List Entry
+  dueIn m = from idOf first (symbols m)
 
-  due-bytes : All (λ e. 0 < length (e .bytes)) Due
-  due-bytes = All-from idOf (λ e. 0 < length (e .bytes)) first symbols some-bytes
+  due-bytes : (m : State) → Fits m → All (λ e. 0 < length (e .bytes)) (dueIn m)
+  due-bytes m f = All-from idOf (λ e. 0 < length (e .bytes)) first (symbols m) (some-bytes m f)
 
   -- a page turn: what is heard is a page more or nothing
-  turn : (o : Outcome) (limit i : ℕ) (t : List Answer) → Paged Due i t → lastStatus t ≢ 0
-      → (Replied o → All (λ e. 4 + length (e .bytes) ≤ limit) Due) → (Replied o → o ≡ replied (pageReply service (drop i Due) limit))
-      → (j : ℕ) × Paged Due j (heard 0 limit o t)
+  turn : (D : List Entry) (o : Outcome) (limit i : ℕ) (t : List Answer) → Paged D i t → lastStatus t ≢ 0
+      → (Replied o → All (λ e. 4 + length (e .bytes) ≤ limit) D) → (Replied o → o ≡ replied (pageReply service (drop i D) limit))
+      → (j : ℕ) × Paged D j (heard 0 limit o t)
   unfolding pageReply reply
-  turn (refused k) limit i t c n l law = (i, c)
-  turn (replied r) limit i t c n l law =
-      let same : r ≡ pageReply service (drop i Due) limit = cc (law tt) in
-      (i + fitting (limit - 4) (drop i Due), rw (same, fits-first (limit - 4) (drop i Due) (fit Due limit i (l tt))) (next limit c n (l tt)))
+  turn D (refused k) limit i t c n l law = (i, c)
+  turn D (replied r) limit i t c n l law =
+      let same : r ≡ pageReply service (drop i D) limit = cc (law tt) in
+      (i + fitting (limit - 4) (drop i D), rw (same, fits-first (limit - 4) (drop i D) (fit D limit i (l tt))) (next limit c n (l tt)))
 
   -- the start ID has what is not yet joined
-  asked : (i : ℕ) (t : List Answer) (s : Sent) (m : Memory) → Paged Due i t → Starts respond pages Due first t (s .request)
-      → Replied (respond s m .outcome) → respond s m .outcome ≡ replied (pageReply service (drop i Due) (s .limit))
-  asked i [] s m c x r = rw (none-joined Due c) (page-law s m first x r)
-  asked i (a ∷ t) s m c x r =
-      let same : i ≡ suc (x .0) = bytes-count Due due-bytes i (suc (x .0)) (at-most Due c) (x .1) (ap length (sym (first-of-them Due c) ∙ x .2)) in
-      rw (same, ← from-next idOf first symbols sorted (x .0) (x .1)) (page-law s m _ (x .3) r)
+  asked : (i : ℕ) (t : List Answer) (s : Sent) (m : State) → Fits m → Paged (dueIn m) i t → Starts (pages m s) (dueIn m) first t
+      → Replied (hear s m) → hear s m ≡ replied (pageReply service (drop i (dueIn m)) (s .limit))
+  asked i [] s m f c x r = rw (none-joined (dueIn m) c) (page-law s m first f x r)
+  asked i (a ∷ t) s m f c x r =
+      let same : i ≡ suc (x .0) = bytes-count (dueIn m) (due-bytes m f) i (suc (x .0)) (at-most (dueIn m) c) (x .1) (ap length (sym (first-of-them (dueIn m) c)) ∙ x .2) in
+      rw (same, ← from-next idOf first (symbols m) (sorted m f) (x .0) (x .1)) (page-law s m _ f (x .3) r)
 
-  paged : (turns : List Turn) (m : Memory) (i : ℕ) (t : List Answer) → Paged Due i t → FairPages respond pages Due first m t turns
-      → (j : ℕ) × Paged Due j (talk respond 0 m t turns)
+  paged : (D : List Entry) (turns : List (Turn Event)) (m : State) (i : ℕ) (t : List Answer) → Fits m → dueIn m ≡ D → Paged D i t
+      → FairPages hear after step pages dueIn first between m t turns → (j : ℕ) × Paged D j (talk hear after step 0 m t turns)
   unfolding FairPages talk
-  paged [] m i t c p = (i, c)
-  paged (ours s ∷ rest) m i t c p =
-      let x = turn (respond s m .outcome) (s .limit) i t c (p .1) (p .2) (asked i t s m c (p .0)) in
-      paged rest (respond s m .memory) (x .0) (heard 0 (s .limit) (respond s m .outcome) t) (x .1) (p .3)
-  paged (other s ∷ rest) m i t c p = paged rest (respond s m .memory) i t c p
+  paged D [] m i t f e c p = (i, c)
+  paged D (ours s ∷ rest) m i t f e c p =
+      let x = turn D (hear s m) (s .limit) i t c (p .1) (rw e at (p .2)) (rw e at (asked i t s m f (rw e c) (p .0))) in
+      paged D rest (after s m) (x .0) (heard 0 (s .limit) (hear s m) t) (keeps s m f) (ap (from idOf first) (kept s m f) ∙ e) (x .1) (p .3)
+  paged D (other u ∷ rest) m i t f e c (inl quiet) = (i, rw (quiet-talk hear after step 0 (step u m) t rest quiet) c)
+  paged D (other u ∷ rest) m i t f e c (inr p) = paged D rest (step u m) i t (stays u m (p .1) f) (p .0 ∙ e) c (p .2)
 
-  pub pages-deliver : (m : Memory) (turns : List Turn) → FairPages respond pages (from idOf first symbols) first m [] turns
-      → Listed (from idOf first symbols) (talk respond 0 m [] turns)
-  pages-deliver m turns p = listed Due due-bytes (paged turns m 0 [] start p .1)
+  pub pages-deliver : (m : State) (turns : List (Turn Event)) → Fits m → FairPages hear after step pages dueIn first between m [] turns
+      → Listed (dueIn m) (talk hear after step 0 m [] turns)
+  pages-deliver m turns f p = listed (dueIn m) (due-bytes m f) (paged (dueIn m) turns m 0 [] f refl start p .1)

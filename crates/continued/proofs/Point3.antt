@@ -1,17 +1,20 @@
--- Point 3 of document 01, for the definition itself: continued reads and continued pages, by `Talk` and `Listing`.
+-- Point 3 for the definition itself: continued reads and continued pages, by `Talk` and `Listing`; first in any bytes, then in exact ones.
 -- Assumes nothing.
 use mathlib.Core.Path.{_≡_, refl}
 use mathlib.Core.Bool.{true, false}
-use mathlib.Core.List.{List, [], _++_}
+use mathlib.Core.List.{List, [], append-nil}
 use Prim.Native.Nat.{ℕ, _≤_, _<_}
 use native.Mathlib.Omega.{arith}
 use lib.Dec.{leb, eqb}
 use lib.ListN.{length, drop, length-take, length-drop}
-use borrow.Author.Tests.{leb-true, lt-leb}
+use borrow.Author.Tests.{leb-true, lt-leb, le-ltb}
+use Rattle.laws.specs.Tests.{every}
 use Rattle.laws.proofs.Chain.{pick-all}
-use Rattle.laws.proofs.Tests.{both-none, among, every-All}
-use Rattle.definition.specs.Bytes.{le16, le32}
+use Rattle.laws.proofs.Tests.{both-none, among}
+use Rattle.definition.specs.Bytes.{u16At, u32At}
 use Rattle.definition.specs.Reply.{answered}
+use Rattle.definition.specs.Segment.{Segment}
+use Rattle.definition.specs.Request.{objectOf}
 use Rattle.definition.specs.Tables.{Tables, Flags, noBit}
 use Rattle.definition.specs.Valid.{t1, valid}
 use Rattle.definition.specs.Resolve.{Resolved, found, turned}
@@ -20,18 +23,19 @@ use Rattle.definition.specs.Read.{Selection, selectedBytes, granted, askTarget,
 use Rattle.definition.specs.Fragment.{fragmentReply}
 use Rattle.definition.specs.Page.{pageReply}
 use Rattle.definition.specs.Symbols.{listing, due, isListed, listSymbols}
-use Rattle.definition.specs.Answer.{onTarget, tagService, answer}
+use Rattle.definition.specs.Answer.{onTarget, tagService, byService, plain, answer}
 use Rattle.definition.specs.Entry.{Entered, replied, lay, entry}
+use Rattle.definition.specs.Promises.{Grants}
 use Rattle.definition.proofs.Enters.{Enters as Ways, stopped, taken, enters}
+use Rattle.definition.proofs.Granted.{past-objects}
 use Rattle.definition.proofs.Listing.{listing-sorted, listing-some}
 use Rattle.definition.proofs.Selected.{granted-some}
 use Rattle.definition.proofs.Stored.{memory-keeps-its-length}
-use Rattle.continued.specs.Reads.{Memory, Sent, Turn, Replied, talk, Fair, Delivered}
-use Rattle.continued.specs.Pages.{FairPages, Listed}
-use Rattle.continued.specs.Point3.{respond, readRequest, Reads, Readable, Pages, Listable}
+use Rattle.continued.specs.Reads.{Sent, Turn, Replied}
+use Rattle.continued.specs.Point3.{Memory, respond, hears, leaves, Event, message, changed, steps, Between, Asks, Reads, FairReads, ReadsDeliver, Continued-reads, AsksPage, Pages, FairList, PagesDeliver, Continued-pages, readRequest, ExactReads, Exact-reads, pageRequest, ExactPages, Exact-pages}
 use Rattle.continued.proofs.Talk.{reads-deliver}
 use Rattle.continued.proofs.Listing.{pages-deliver}
-use Rattle.continued.proofs.Requests.{u16-le16, u32-le32, counted-back, listed-small, answer-read, answer-page}
+use Rattle.continued.proofs.Requests.{exact-asks, exact-page}
 
 -- ---- past the entry: a reply is the dispatcher's, and a refusal leaves the memory
 
@@ -48,6 +52,19 @@ entered t f s m = go (enters t f m (s .request) (s .limit) (s .buffer))
     go (stopped k low high e) = rw e (λ r. absurd r, λ n. refl)
     go (taken a b c d e) = rw e (λ r. refl, λ n. absurd (n tt))
 
+-- ---- valid tables stay valid: every turn leaves a memory of the same length
+
+abbrev Fits : Tables → Memory → Type 0
+Fits t m = valid t (length m) ≡ true
+
+keeps : (t : Tables) (f : Flags) (s : Sent) (m : Memory) → Fits t m → Fits t (leaves t f s m)
+unfolding respond
+keeps t f s m v = rw (memory-keeps-its-length t f m (s .request) (s .limit) (s .buffer)) v
+
+stays : (t : Tables) (f : Flags) (e : Event) (m : Memory) → Between e m → Fits t m → Fits t (steps t f e m)
+stays t f (message s) m b v = keeps t f s m v
+stays t f (changed left) m b v = rw b v
+
 -- ---- reads
 
 -- T1: what is selected is at most 65,536 bytes
@@ -58,57 +75,75 @@ selected-few t s m v =
     pick-all (λ (l : List ℕ). length l ≤ 65536) (eqb (s .bit) noBit) (simp (length-take, length-drop) (omega arith)) (omega arith)
 
 -- a granted read, at an offset below the number of selected bytes
-pub granted-reply : (t : Tables) (m : Memory) (x : Resolved) (elements offset limit : ℕ) (s : Selection)
-    → askTarget (t .structures) x elements ≡ granted s → elements < 65536 → offset < 4294967296 → offset < length (selectedBytes s m)
-    → onTarget t m 0x52 x (le16 elements ++ le32 offset) limit ≡ answered (fragmentReply 0x52 (s .header) (drop offset (selectedBytes s m)) limit) m
+pub granted-reply : (t : Tables) (m : Memory) (x : Resolved) (body : List ℕ) (limit : ℕ) (s : Selection)
+    → 6 ≤ length body → askTarget (t .structures) x (u16At body 0) ≡ granted s → u32At body 2 < length (selectedBytes s m)
+    → onTarget t m 0x52 x body limit ≡ answered (fragmentReply 0x52 (s .header) (drop (u32At body 2) (selectedBytes s m)) limit) m
 unfolding readReply sendFrom
-granted-reply t m (turned status) elements offset limit s e a b l = absurd (let z : _≡_ {A = ℕ} 0 1 = cc in omega arith)
-granted-reply t m (found g) elements offset limit s e a b l =
-    rw (u16-le16 elements [] a, u32-le32 offset [] b, e, lt-leb (length (selectedBytes s m)) offset l)
+granted-reply t m (turned status) body limit s b e l = absurd (let z : _≡_ {A = ℕ} 0 1 = cc in omega arith)
+granted-reply t m (found g) body limit s b e l = rw (le-ltb, e, lt-leb (length (selectedBytes s m)) (u32At body 2) l)
 
-pub continued-reads : (t : Tables) (f : Flags) (path : List ℕ) (elements : ℕ) (s : Selection) (m : Memory) (turns : List Turn)
-    → Readable t f m path elements s
-    → Fair (respond t f) (Reads path elements) (selectedBytes s) (length (s .header)) m [] turns
-    → Delivered (selectedBytes s m) (length (s .header)) (talk (respond t f) (length (s .header)) m [] turns)
-unfolding respond tagService
-continued-reads t f path elements s m turns r fair =
-    reads-deliver (respond t f) (Reads path elements) (selectedBytes s) (s .header) 0x52 (λ m. valid t (length m) ≡ true)
-    keeps law (λ x m. entered t f x m .1) m turns (r .tables) (granted-some t f (r .decoded) elements s m (r .tables) (r .grants)) fair
-  where
-    keeps : (x : Sent) (m : Memory) → valid t (length m) ≡ true → valid t (length (respond t f x m .memory)) ≡ true
-    keeps x m v = rw (memory-keeps-its-length t f m (x .request) (x .limit) (x .buffer)) v
+module _ (t : Tables) (f : Flags) (path : List Segment) (elements : ℕ) (g : Grants t f path elements) where
+  read-law : (x : Sent) (m : Memory) (offset : ℕ) → Asks path elements (x .request) offset → offset < length (selectedBytes (g .selected) m) → Replied (hears t f x m)
+      → (respond t f x m .outcome ≡ replied (fragmentReply 0x52 (g .selected .header) (drop offset (selectedBytes (g .selected) m)) (x .limit)))
+      × (respond t f x m .memory ≡ m)
+  unfolding tagService answer plain byService
+  read-law x m offset q l p =
+      rw (
+        entered t f x m .0 p,
+        q .is,
+        past-objects t f m 0x52 (objectOf path) path (q .body) (x .limit) refl refl,
+        g .tag-path,
+        granted-reply t m (tagTarget t f false path) (q .body) (x .limit) (g .selected) (q .fields) (rw (q .count-is) (g .granted-is)) (rw (q .offset-is) l),
+        q .offset-is,
+      ) (refl, refl)
 
-    law : (x : Sent) (m : Memory) (offset : ℕ) → valid t (length m) ≡ true → x .request ≡ readRequest path elements offset
-        → offset < length (selectedBytes s m) → Replied (respond t f x m .outcome)
-        → (respond t f x m .outcome ≡ replied (fragmentReply 0x52 (s .header) (drop offset (selectedBytes s m)) (x .limit))) × (respond t f x m .memory ≡ m)
-    law x m offset v q l p =
-        rw (
-          entered t f x m .0 p,
-          q,
-          answer-read t f m path (r .decoded) elements offset (x .limit) (r .encodes) (r .tag-path),
-          granted-reply t m (tagTarget t f false (r .decoded)) elements offset (x .limit) s (r .grants) (r .count) (omega (arith, selected-few t s m v)) l,
-        ) (refl, refl)
+  -- of any notion of a read that is such a read where something is selected
+  reads-of : (reads : Memory → Sent → ℕ → Type 0)
+      → ((x : Sent) (m : Memory) (offset : ℕ) → Fits t m → reads m x offset → offset < length (selectedBytes (g .selected) m) → Asks path elements (x .request) offset)
+      → (m : Memory) (turns : List (Turn Event)) → valid t (length m) ≡ true → FairReads t f reads (g .selected) m turns → ReadsDeliver t f (g .selected) m turns
+  reads-of reads asks m turns v =
+      reads-deliver (hears t f) (leaves t f) (steps t f) reads (selectedBytes (g .selected)) (g .selected .header) 0x52 (Fits t) Between
+      (keeps t f) (stays t f) (λ x m offset v q l. read-law x m offset (asks x m offset v q l) l) (λ x m. entered t f x m .1)
+      m turns v (granted-some t f path elements (g .selected) m v (g .granted-is))
+
+pub continued-reads : Continued-reads
+continued-reads t f path elements g = reads-of t f path elements g (Reads path elements) (λ x m offset v q l. q)
+
+pub exact-reads : Exact-reads
+exact-reads t f path elements s m turns r =
+    reads-of t f (r .decoded) elements (record { tag-path = r .tag-path; selected = s; granted-is = r .grants }) (ExactReads path elements)
+    (λ x m offset v q l. rw (q, ← append-nil (readRequest path elements offset)) (exact-asks path (r .decoded) elements offset [] (r .encodes) (r .count) (omega (arith, selected-few t s m v))))
+    m turns (r .tables)
 
 -- ---- pages
 
-pub continued-pages : (t : Tables) (f : Flags) (scope : ℕ) (attributes : List ℕ) (first : ℕ) (m : Memory) (turns : List Turn)
-    → Listable t m attributes
-    → FairPages (respond t f) (Pages t scope attributes) (due t scope attributes first) first m [] turns
-    → Listed (due t scope attributes first) (talk (respond t f) 0 m [] turns)
-unfolding due listSymbols
-continued-pages t f scope attributes first m turns r fair =
-    pages-deliver (respond t f) (Pages t scope attributes) 0x55 (listing t scope attributes)
-    (listing-sorted scope attributes t (length m) (r .tables)) (listing-some scope attributes t)
-    first law m turns fair
-  where
-    law : (x : Sent) (m : Memory) (id : ℕ) → Pages t scope attributes (x .request) id → Replied (respond t f x m .outcome)
-        → respond t f x m .outcome ≡ replied (pageReply 0x55 (due t scope attributes id) (x .limit))
-    law x m id p y =
-        rw (
-          entered t f x m .0 y,
-          p .2,
-          answer-page t f m (p .0) (p .1 .decoded) attributes (x .limit) (p .1 .encodes),
-          p .1 .starts,
-          counted-back attributes (r .count) (every-All isListed _ listed-small attributes (r .accepted)),
-          r .accepted,
-        )
+module _ (t : Tables) (f : Flags) (scope : ℕ) (attributes : List ℕ) (accepted : every isListed attributes ≡ true) where
+  page-law : (x : Sent) (m : Memory) (id : ℕ) → AsksPage t scope attributes (x .request) id → Replied (hears t f x m)
+      → respond t f x m .outcome ≡ replied (pageReply 0x55 (due t scope attributes id) (x .limit))
+  unfolding listSymbols answer plain byService
+  page-law x m id p y =
+      rw (
+        entered t f x m .0 y,
+        p .is,
+        past-objects t f m 0x55 (objectOf (p .path)) (p .path) (p .body) (x .limit) refl refl,
+        p .starts,
+        p .list-is,
+        accepted,
+      )
+
+  pages-of : (pages : Memory → Sent → ℕ → Type 0) → ((x : Sent) (m : Memory) (id : ℕ) → pages m x id → AsksPage t scope attributes (x .request) id)
+      → (first : ℕ) (m : Memory) (turns : List (Turn Event)) → valid t (length m) ≡ true
+      → FairList t f pages scope attributes first m turns → PagesDeliver t f scope attributes first m turns
+  unfolding due
+  pages-of pages asks first m turns v =
+      pages-deliver (hears t f) (leaves t f) (steps t f) pages (λ m. listing t scope attributes) 0x55 first (Fits t) Between
+      (keeps t f) (stays t f) (λ m v. listing-sorted scope attributes t (length m) v) (λ m v. listing-some scope attributes t)
+      (λ x m id v q. page-law x m id (asks x m id q)) (λ x m v. refl) m turns v
+
+pub continued-pages : Continued-pages
+continued-pages t f scope attributes first m turns v accepted = pages-of t f scope attributes accepted (Pages t scope attributes) (λ x m id q. q) first m turns v
+
+pub exact-pages : Exact-pages
+exact-pages t f scope attributes first m turns r =
+    pages-of t f scope attributes (r .accepted) (ExactPages t scope attributes)
+    (λ x m id q. rw (q .2, ← append-nil (pageRequest (q .0) attributes)) (exact-page t scope attributes (q .0) id [] (r .count) (r .accepted) (q .1))) first m turns (r .tables)

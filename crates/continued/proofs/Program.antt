@@ -1,74 +1,171 @@
--- Point 3 of the program: every run of `message` hears what the definition's entry says, so both theorems of Point3 hold of what it hears.
+-- Point 3 of a program: every run hears what the definition's entry says, so both theorems of Point3 hold of what it hears; and there are such runs.
 -- Assumes nothing.
-use mathlib.Core.Path.{_≡_, refl, ap, _∙_}
+use mathlib.Core.Path.{_≡_, refl, sym, ap, _∙_}
 use mathlib.Core.List.{List, [], _∷_}
-use Prim.Native.Nat.{ℕ}
+use Prim.Native.Nat.{ℕ, zero, suc, _≤_, _<_}
+use native.Mathlib.Omega.{arith}
 use lib.ListN.{length, take}
+use borrow.Author.Tests.{le-ltb}
 use Rattle.laws.specs.Put.{laid}
 use Rattle.laws.proofs.Put.{take-laid}
 use Rattle.definition.specs.Reply.{room}
 use Rattle.definition.specs.Tables.{Tables, Flags}
-use Rattle.definition.specs.Read.{Selection, selectedBytes}
-use Rattle.definition.specs.Symbols.{due}
-use Rattle.definition.specs.Entry.{Outcome as Defined, refused, replied}
+use Rattle.definition.specs.Answer.{answer}
+use Rattle.definition.specs.Entry.{Outcome, refused, replied, Entered, refuse, lay, entry}
 use Rattle.definition.proofs.Enters.{Enters as Ways, stopped, taken, enters}
-use Rattle.logix.specs.Entering.{Says}
-use Rattle.logix.specs.declared.entry.Outcome.{Outcome}
+use Rattle.services.specs.Answers.{Answers}
+use Rattle.logix.specs.Entering.{Says, numberOf, Enters}
+use Rattle.logix.specs.declared.entry.Refusal.{Refusal}
+use Rattle.logix.specs.declared.entry.Refusal.the-variants.{RequestTooLong, LimitTooLarge, BufferTooShort, TablesInvalid}
+use Rattle.logix.specs.declared.entry.Outcome.{Outcome as Result}
 use Rattle.logix.specs.declared.entry.Outcome.the-variants.{Reply, Refused}
-use Rattle.continued.specs.Reads.{Memory, Sent, Turn, ours, other, Answer, heard, talk, Fair, Delivered}
-use Rattle.continued.specs.Pages.{FairPages, Listed}
-use Rattle.continued.specs.Point3.{respond, Readable, Reads, Listable, Pages}
-use Rattle.continued.specs.Program.{heardOf, Runs, ended, next-ours, next-other}
+use Rattle.continued.specs.Reads.{Sent, Turn, ours, other, Answer, heard, talk}
+use Rattle.continued.specs.Point3.{Memory, respond, hears, leaves, Event, message, changed, steps}
+use Rattle.continued.specs.Program.{Runs, ended, next-ours, next-other, Step, ByStep, ByEvent, RunsOf, Leaves, Faithful, Total, Program-reads, Program-pages, Runs-exist, told, ByMessage, Taken, ByAnswer, Message-is-faithful, Answer-is-faithful}
 use Rattle.continued.proofs.Point3.{continued-reads, continued-pages}
 
--- a reply stands in the buffer
-Stands-in : (limit : ℕ) (old buffer : List ℕ) → Defined → Type 0
-Stands-in limit old buffer (refused number) = Unit {0}
-Stands-in limit old buffer (replied bytes) = buffer ≡ laid (room limit) old bytes
+-- ---- over any states and events: a run whose turns leave what the controller leaves hears what it says
 
-stands-in : (t : Tables) (f : Flags) (s : Sent) (m : Memory) → Stands-in (s .limit) (s .buffer) (respond t f s m .buffer) (respond t f s m .outcome)
-unfolding respond Stands-in
-stands-in t f s m = go (enters t f m (s .request) (s .limit) (s .buffer))
-  where
-    go : Ways t f m (s .request) (s .limit) (s .buffer) → Stands-in (s .limit) (s .buffer) (respond t f s m .buffer) (respond t f s m .outcome)
-    go (stopped number a b e) = rw e tt
-    go (taken a b c d e) = rw e refl
-
-module _ (h limit : ℕ) (old : List ℕ) (answers : List Answer) where
-  heard-is : (r : Outcome) (buffer : List ℕ) (d : Defined) → Says r d → Stands-in limit old buffer d → heardOf h limit r buffer answers ≡ heard h limit d answers
-  unfolding Stands-in
-  heard-is (Reply n) buffer (replied bytes) e k =
-      let b : take n buffer ≡ bytes = rw (e, k) (take-laid (room limit) old bytes) in rw b
-  heard-is (Reply n) buffer (refused number) e k = absurd e
-  heard-is (Refused why) buffer (replied bytes) e k = absurd e
-  heard-is (Refused why) buffer (refused number) e k = refl
-
-module _ (t : Tables) (f : Flags) (h : ℕ) where
-  pub runs-talk : (m : Memory) (answers : List Answer) (turns : List Turn) (out : List Answer) → Runs t f h m answers turns out → out ≡ talk (respond t f) h m answers turns
+module _ {State Event : Type 0} (hear : Sent → State → Outcome) (after : Sent → State → State) (step : Event → State → State)
+    (Hears : Sent → State → Outcome → State → Type 0) (Steps : Event → State → State → Type 0) where
+  runs-talk : ((s : Sent) (m left : State) (o : Outcome) → Hears s m o left → (o ≡ hear s m) × (left ≡ after s m))
+      → ((e : Event) (m left : State) → Steps e m left → left ≡ step e m)
+      → (h : ℕ) (m : State) (answers : List Answer) (turns : List (Turn Event)) (out : List Answer)
+      → Runs Hears Steps h m answers turns out → out ≡ talk hear after step h m answers turns
   unfolding talk
-  runs-talk m answers [] out ended = refl
-  runs-talk m answers (ours s ∷ rest) out (next-ours r buffer after e run) =
-      let k = heard-is h (s .limit) (s .buffer) answers r buffer (respond t f s m .outcome) (e .outcome-is) (rw (e .buffer-is) (stands-in t f s m)) in
-      runs-talk after _ rest out run
-      ∙ ap (λ (x : Memory). talk (respond t f) h x (heardOf h (s .limit) r buffer answers) rest) (e .memory-is)
-      ∙ ap (λ (a : List Answer). talk (respond t f) h (respond t f s m .memory) a rest) k
-  runs-talk m answers (other s ∷ rest) out (next-other r buffer after e run) =
-      runs-talk after answers rest out run ∙ ap (λ (x : Memory). talk (respond t f) h x answers rest) (e .memory-is)
+  runs-talk hs es h m answers [] out ended = refl
+  runs-talk hs es h m answers (ours s ∷ rest) out (next-ours {left = left} {o = o} e run) =
+      runs-talk hs es h left (heard h (s .limit) o answers) rest out run
+      ∙ ap (λ (x : State). talk hear after step h x (heard h (s .limit) o answers) rest) (hs s m left o e .1)
+      ∙ ap (λ (x : Outcome). talk hear after step h (after s m) (heard h (s .limit) x answers) rest) (hs s m left o e .0)
+  runs-talk hs es h m answers (other u ∷ rest) out (next-other {left = left} e run) =
+      runs-talk hs es h left answers rest out run ∙ ap (λ (x : State). talk hear after step h x answers rest) (es u m left e)
 
--- continued reads, of the program: the joined bytes are the first of those selected, and the rest of what `Delivered` says
-pub program-reads : (t : Tables) (f : Flags) (path : List ℕ) (elements : ℕ) (s : Selection) (m : Memory) (turns : List Turn) (out : List Answer)
-    → Readable t f m path elements s
-    → Fair (respond t f) (Reads path elements) (selectedBytes s) (length (s .header)) m [] turns
-    → Runs t f (length (s .header)) m [] turns out
-    → Delivered (selectedBytes s m) (length (s .header)) out
-program-reads t f path elements s m turns out r fair run =
-    rw (runs-talk t f (length (s .header)) m [] turns out run) (continued-reads t f path elements s m turns r fair)
+module _ {State Event : Type 0} (Hears : Sent → State → Outcome → State → Type 0) (Steps : Event → State → State → Type 0) where
+  some-run : ((s : Sent) (m : State) → (o : Outcome) × (left : State) × Hears s m o left) → ((e : Event) (m : State) → (left : State) × Steps e m left)
+      → (h : ℕ) (m : State) (answers : List Answer) (turns : List (Turn Event)) → (out : List Answer) × Runs Hears Steps h m answers turns out
+  some-run hs es h m answers [] = (answers, ended)
+  some-run hs es h m answers (ours s ∷ rest) =
+      let x = hs s m in
+      let r = some-run hs es h (x .1) (heard h (s .limit) (x .0) answers) rest in (r .0, next-ours (x .2) (r .1))
+  some-run hs es h m answers (other e ∷ rest) =
+      let x = es e m in
+      let r = some-run hs es h (x .0) answers rest in (r .0, next-other (x .1) (r .1))
 
--- continued pages, of the program
-pub program-pages : (t : Tables) (f : Flags) (scope : ℕ) (attributes : List ℕ) (first : ℕ) (m : Memory) (turns : List Turn) (out : List Answer)
-    → Listable t m attributes
-    → FairPages (respond t f) (Pages t scope attributes) (due t scope attributes first) first m [] turns
-    → Runs t f 0 m [] turns out
-    → Listed (due t scope attributes first) out
-program-pages t f scope attributes first m turns out r fair run =
-    rw (runs-talk t f 0 m [] turns out run) (continued-pages t f scope attributes first m turns r fair)
+-- ---- on a tag memory
+
+module _ (t : Tables) (f : Flags) (step : Step) (faithful : Faithful t f step) where
+  hears-is : (s : Sent) (m left : Memory) (o : Outcome) → ByStep step s m o left → (o ≡ hears t f s m) × (left ≡ leaves t f s m)
+  hears-is s m left o (buffer, e) = let x = faithful s m o buffer left e in (x .outcome-is, x .memory-is)
+
+  steps-is : (e : Event) (m left : Memory) → ByEvent step e m left → left ≡ steps t f e m
+  steps-is (message s) m left (o, e) = hears-is s m left o e .1
+  steps-is (changed memory) m left e = e
+
+  run-is : (h : ℕ) (m : Memory) (turns : List (Turn Event)) (out : List Answer) → RunsOf step h m [] turns out
+      → out ≡ talk (hears t f) (leaves t f) (steps t f) h m [] turns
+  run-is h m turns out = runs-talk (hears t f) (leaves t f) (steps t f) (ByStep step) (ByEvent step) hears-is steps-is h m [] turns out
+
+pub program-reads : Program-reads
+program-reads t f step faithful path elements g m turns out v fair run =
+    rw (run-is t f step faithful (length (g .selected .header)) m turns out run) (continued-reads t f path elements g m turns v fair)
+
+pub program-pages : Program-pages
+program-pages t f step faithful scope attributes first m turns out v accepted fair run =
+    rw (run-is t f step faithful 0 m turns out run) (continued-pages t f scope attributes first m turns v accepted fair)
+
+pub runs-exist : Runs-exist
+runs-exist step total h m answers turns =
+    some-run (ByStep step) (ByEvent step) by-step by-event h m answers turns
+  where
+    by-step : (s : Sent) (m : Memory) → (o : Outcome) × (left : Memory) × ByStep step s m o left
+    by-step s m = let x = total s m in (x .0, x .2, (x .1, x .3))
+
+    by-event : (e : Event) (m : Memory) → (left : Memory) × ByEvent step e m left
+    by-event (message s) m = let x = total s m in (x .2, (x .0, (x .1, x .3)))
+    by-event (changed memory) m = (memory, refl)
+
+-- ---- one notion of a step: the outcome that the entry's own is told as, the entry's buffer and its memory
+
+-- a reply is told by its length, and read from the buffer
+abbrev pub toldAs : Outcome → (buffer : List ℕ) → Outcome
+toldAs (refused number) buffer = refused number
+toldAs (replied bytes) buffer = replied (take (length bytes) buffer)
+
+told-is : (t : Tables) (f : Flags) (s : Sent) (m : Memory) → toldAs (respond t f s m .outcome) (respond t f s m .buffer) ≡ respond t f s m .outcome
+unfolding respond
+told-is t f s m = go (enters t f m (s .request) (s .limit) (s .buffer))
+  where
+    go : Ways t f m (s .request) (s .limit) (s .buffer) → toldAs (respond t f s m .outcome) (respond t f s m .buffer) ≡ respond t f s m .outcome
+    go (stopped number a b e) = rw e refl
+    go (taken a b c d e) = rw e (ap replied (take-laid (room (s .limit)) (s .buffer) (answer t f m (s .request) (s .limit) .reply)))
+
+pub leaves-by : (t : Tables) (f : Flags) (s : Sent) (m : Memory) (o : Outcome) (buffer left : List ℕ)
+    → o ≡ toldAs (respond t f s m .outcome) buffer → buffer ≡ respond t f s m .buffer → left ≡ respond t f s m .memory → Leaves (respond t f s m) o buffer left
+leaves-by t f s m o buffer left e b l = record {
+  outcome-is = e ∙ ap (toldAs (respond t f s m .outcome)) b ∙ told-is t f s m;
+  buffer-is = b;
+  memory-is = l;
+}
+
+-- ---- `message`
+
+told-says : (r : Result) (d : Outcome) (buffer : List ℕ) → Says r d → told r buffer ≡ toldAs d buffer
+told-says (Reply n) (replied bytes) buffer e = rw e refl
+told-says (Reply n) (refused number) buffer e = absurd e
+told-says (Refused why) (replied bytes) buffer e = absurd e
+told-says (Refused why) (refused number) buffer e = rw e refl
+
+refusal-by : (number : ℕ) → 0 < number → number ≤ 4 → (why : Refusal) × (numberOf why ≡ number)
+refusal-by zero a b = absurd (omega arith)
+refusal-by (suc zero) a b = (RequestTooLong, refl)
+refusal-by (suc (suc zero)) a b = (LimitTooLarge, refl)
+refusal-by (suc (suc (suc zero))) a b = (BufferTooShort, refl)
+refusal-by (suc (suc (suc (suc zero)))) a b = (TablesInvalid, refl)
+refusal-by (suc (suc (suc (suc (suc n))))) a b = absurd (omega arith)
+
+-- some result says the entry's outcome
+result-of : (t : Tables) (f : Flags) (s : Sent) (m : Memory) → (r : Result) × Says r (respond t f s m .outcome)
+unfolding respond
+result-of t f s m = go (enters t f m (s .request) (s .limit) (s .buffer))
+  where
+    go : Ways t f m (s .request) (s .limit) (s .buffer) → (r : Result) × Says r (respond t f s m .outcome)
+    go (stopped number a b e) = let x = refusal-by number a b in (Refused (x .0), rw e (x .1))
+    go (taken a b c d e) = (Reply (length (answer t f m (s .request) (s .limit) .reply)), rw e refl)
+
+pub message-is-faithful : Message-is-faithful
+message-is-faithful t f = (faithful, total)
+  where
+    faithful : Faithful t f (ByMessage t f)
+    faithful s m o buffer left (r, e, x) =
+        leaves-by t f s m o buffer left (e ∙ told-says r (respond t f s m .outcome) buffer (x .outcome-is)) (x .buffer-is) (x .memory-is)
+
+    total : Total (ByMessage t f)
+    total s m =
+        let x = result-of t f s m in
+        let e = respond t f s m in
+        (told (x .0) (e .buffer), e .buffer, e .memory, (x .0, refl, record { outcome-is = x .1; buffer-is = refl; memory-is = refl }))
+
+-- ---- `answer` on valid tables
+
+-- past the entry the dispatcher's answer is laid
+laid-by : (t : Tables) (f : Flags) (s : Sent) (m : Memory) → Taken t s m → respond t f s m ≡ lay (s .limit) (s .buffer) (answer t f m (s .request) (s .limit))
+unfolding respond entry
+laid-by t f s m k =
+    rw (le-ltb 65535 (length (s .request)) (k .request-fits), le-ltb 65535 (s .limit) (k .limit-fits), le-ltb (length (s .buffer)) (room (s .limit)) (k .has-room), k .tables)
+    refl
+
+pub answer-is-faithful : Answer-is-faithful
+answer-is-faithful t f = (faithful, total)
+  where
+    faithful : Faithful t f (ByAnswer t f)
+    faithful s m o buffer left (k, n, e, x) =
+        let l = laid-by t f s m k in
+        leaves-by t f s m o buffer left (rw l (rw (x .length-is) at e)) (rw l (x .buffer-is)) (rw l (x .memory-is))
+
+    total : (s : Sent) (m : Memory) → Taken t s m → (o : Outcome) × (buffer left : List ℕ) × ByAnswer t f s m o buffer left
+    total s m k =
+        let a = answer t f m (s .request) (s .limit) in
+        let buffer = laid (room (s .limit)) (s .buffer) (a .reply) in
+        (replied (take (length (a .reply)) buffer), buffer, a .memory,
+        (k, length (a .reply), refl, record { length-is = refl; buffer-is = refl; memory-is = refl }))

@@ -1,4 +1,4 @@
--- What the definition makes of the exact bytes of a continued read and of a page's request.
+-- What the definition makes of the exact bytes of a continued read and of a page's request, and of any data behind them.
 -- Assumes nothing.
 use mathlib.Core.Path.{_≡_, refl}
 use mathlib.Core.Bool.{Bool, true, false}
@@ -13,17 +13,18 @@ use lib.Seq.{take-append-seam, drop-append-seam, drop-append-add}
 use borrow.Author.Tests.{le-ltb, eqb-true}
 use Rattle.laws.specs.Pick.{either}
 use Rattle.laws.specs.Sorted.{All}
+use Rattle.laws.specs.Tests.{every}
 use Rattle.laws.proofs.Chain.{by-test}
-use Rattle.laws.proofs.Tests.{both-none}
+use Rattle.laws.proofs.Tests.{every-All}
 use Rattle.definition.specs.Bytes.{u16At, u32At, le16, le32, numbers, counted}
 use Rattle.definition.specs.Reply.{answered}
 use Rattle.definition.specs.Segment.{Segment}
-use Rattle.definition.specs.Request.{request, requestOf, Object, object, noObject, objectOf, isTagPath}
+use Rattle.definition.specs.Request.{request, requestOf, objectOf, isTagPath}
 use Rattle.definition.specs.Tables.{Tables, Flags}
 use Rattle.definition.specs.Symbols.{isListed, listSymbols}
-use Rattle.definition.specs.Answer.{tagService, byService, byObject, plain, answer}
-use Rattle.continued.specs.Reads.{Memory}
-use Rattle.continued.specs.Point3.{Encodes, readRequest, numberBytes, pageRequest}
+use Rattle.definition.specs.Answer.{tagService, byService, plain, answer}
+use Rattle.definition.proofs.Granted.{past-objects}
+use Rattle.continued.specs.Point3.{Memory, Asks, AsksPage, Encodes, readRequest, numberBytes, pageRequest, Starts-at}
 
 -- ---- numbers and their bytes
 
@@ -37,16 +38,16 @@ number-bytes-length : (ns : List ℕ) → length (numberBytes ns) ≡ 2 * length
 number-bytes-length [] = refl
 number-bytes-length (n ∷ ns) = omega (arith, number-bytes-length ns)
 
-numbers-back : (ns : List ℕ) → All (λ n. n < 65536) ns → numbers (length ns) (numberBytes ns) ≡ ns
+numbers-back : (ns more : List ℕ) → All (λ n. n < 65536) ns → numbers (length ns) (numberBytes ns ++ more) ≡ ns
 unfolding numbers
-numbers-back [] a = refl
-numbers-back (n ∷ ns) a = rw (u16-le16 n (numberBytes ns) (a .0), numbers-back ns (a .1))
+numbers-back [] more a = refl
+numbers-back (n ∷ ns) more a = rw (u16-le16 n (numberBytes ns ++ more) (a .0), numbers-back ns more (a .1))
 
-pub counted-back : (ns : List ℕ) → length ns < 65536 → All (λ n. n < 65536) ns → counted (le16 (length ns) ++ numberBytes ns) ≡ some ns
+counted-back : (ns more : List ℕ) → length ns < 65536 → All (λ n. n < 65536) ns → counted (le16 (length ns) ++ (numberBytes ns ++ more)) ≡ some ns
 unfolding counted
-counted-back ns h a =
-    let fits : 2 + 2 * length ns ≤ length (le16 (length ns) ++ numberBytes ns) = omega (arith, number-bytes-length ns) in
-    rw (u16-le16 (length ns) (numberBytes ns) h, le-ltb, numbers-back ns a)
+counted-back ns more h a =
+    let fits : 2 + 2 * length ns ≤ length (le16 (length ns) ++ (numberBytes ns ++ more)) = omega (arith, number-bytes-length ns, length-append (numberBytes ns) more) in
+    rw (u16-le16 (length ns) (numberBytes ns ++ more) h, le-ltb, numbers-back ns more a)
 
 -- an attribute of those accepted is a small number
 one-of : (n k : ℕ) (rest : Bool) → k < 65536 → (rest ≡ true → n < 65536) → either (eqb n k) rest ≡ true → n < 65536
@@ -74,12 +75,33 @@ decoded-request service path decoded body e =
       e .decodes,
     )
 
-past-objects : (t : Tables) (f : Flags) (m : Memory) (service : ℕ) (o : Object) (path : List Segment) (body : List ℕ) (limit : ℕ)
-    → eqb service 0x03 ≡ false → eqb service 0x4C ≡ false
-    → byObject t f m service o path body limit ≡ byService t f m service path body limit
-past-objects t f m service noObject path body limit a b = refl
-past-objects t f m service (object c i) path body limit a b =
-    rw (a, b, both-none (eqb c 0x6B), both-none (eqb c 0x6C))
+-- ---- exact bytes, with any data behind them, are a continued read and a continued page
+
+pub exact-asks : (path : List ℕ) (decoded : List Segment) (elements offset : ℕ) (more : List ℕ) → Encodes path decoded → elements < 65536 → offset < 4294967296
+    → Asks decoded elements (readRequest path elements offset ++ more) offset
+unfolding readRequest
+exact-asks path decoded elements offset more e few low = record {
+  body = le16 elements ++ (le32 offset ++ more);
+  is = rw (append-assoc (path ++ le16 elements) (le32 offset) more, append-assoc path (le16 elements) (le32 offset ++ more))
+      (decoded-request 0x52 path decoded (le16 elements ++ (le32 offset ++ more)) e);
+  fields = omega arith;
+  count-is = u16-le16 elements (le32 offset ++ more) few;
+  offset-is = u32-le32 offset more low;
+}
+
+pub exact-page : (t : Tables) (scope : ℕ) (attributes path : List ℕ) (id : ℕ) (more : List ℕ) → length attributes < 65536 → every isListed attributes ≡ true
+    → Starts-at t scope id path → AsksPage t scope attributes (pageRequest path attributes ++ more) id
+unfolding pageRequest
+exact-page t scope attributes path id more few accepted s = record {
+  path = s .decoded;
+  body = le16 (length attributes) ++ (numberBytes attributes ++ more);
+  is = rw (append-assoc (path ++ le16 (length attributes)) (numberBytes attributes) more, append-assoc path (le16 (length attributes)) (numberBytes attributes ++ more))
+      (decoded-request 0x55 path (s .decoded) (le16 (length attributes) ++ (numberBytes attributes ++ more)) (s .encodes));
+  starts = s .starts;
+  list-is = counted-back attributes more few (every-All isListed _ listed-small attributes accepted);
+}
+
+-- ---- the dispatcher on exact bytes
 
 -- a service that is no envelope's and no object's own goes to the services proper
 pub to-service : (t : Tables) (f : Flags) (m : Memory) (service : ℕ) (path : List ℕ) (decoded : List Segment) (body : List ℕ) (limit : ℕ)

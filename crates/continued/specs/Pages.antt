@@ -1,4 +1,5 @@
--- Document 01, "Symbol page", point 3: the continued symbol pages. The premises on a list of messages, and what is claimed of its answered pages.
+-- Point 3 of document 00, with document 01, "Symbol page": the continued symbol pages. The premises on a list of turns, and what is claimed of its
+-- answered pages. Over any controller, as in Reads.
 use mathlib.Core.Path.{_≡_}
 use mathlib.Core.Logic.{_↔_, _≢_, _⊎_}
 use mathlib.Core.List.{List, [], _∷_, map}
@@ -6,25 +7,29 @@ use Prim.Native.Nat.{ℕ, suc, _+_, _≤_, _<_, max}
 use lib.ListN.{length, take, drop, getD}
 use Rattle.laws.specs.Sorted.{All}
 use Rattle.definition.specs.Page.{Entry, idOf, bytesOf}
-use Rattle.definition.specs.Entry.{Entered}
-use Rattle.continued.specs.Reads.{Memory, Sent, Turn, ours, other, Answer, joined, lastStatus, Each, heard, Replied}
+use Rattle.definition.specs.Entry.{Outcome}
+use Rattle.continued.specs.Reads.{Sent, Turn, ours, other, Answer, joined, lastStatus, Each, heard, Replied, Quiet}
 
-module _ (respond : Sent → Memory → Entered) (pages : List ℕ → ℕ → Type 0) where
-  -- the start ID is the first until a page is answered, then the last joined ID plus one: of the k-th entry due, if the joined bytes end with it
-  abbrev pub Starts : (due : List Entry) (first : ℕ) → List Answer → List ℕ → Type 0
-  Starts due first [] x = pages x first
-  Starts due first (a ∷ before) x =
-      (k : ℕ) × (k < length due) × (joined (a ∷ before) ≡ bytesOf (take (suc k) due)) × pages x (suc (getD (map idOf due) k 0))
+-- the start ID is the first until a page is answered, then the last joined ID plus one: of the k-th entry due, if as many bytes are joined as there are up to it
+abbrev pub Starts : (pages : ℕ → Type 0) (due : List Entry) (first : ℕ) → List Answer → Type 0
+Starts pages due first [] = pages first
+Starts pages due first (a ∷ before) =
+    (k : ℕ) × (k < length due) × (length (joined (a ∷ before)) ≡ length (bytesOf (take (suc k) due))) × pages (suc (getD (map idOf due) k 0))
 
-  -- the premises on the list: none of ours follows status 0, and an answered one has a limit of at least 4 plus the longest entry due
-  unfoldable pub FairPages : (due : List Entry) (first : ℕ) → Memory → List Answer → List Turn → Type 0
-  FairPages due first m answers [] = Unit {0}
-  FairPages due first m answers (ours s ∷ rest) =
-      Starts due first answers (s .request)
+module _ {State Event : Type 0} (hear : Sent → State → Outcome) (after : Sent → State → State) (step : Event → State → State) where
+  -- the premises on the list: none of ours follows status 0, and an answered one has a limit of at least 4 plus the longest entry due; with one of ours
+  -- behind it, an event leaves the same entries due and is one that may fall between
+  unfoldable pub FairPages : (pages : State → Sent → ℕ → Type 0) (due : State → List Entry) (first : ℕ) (between : Event → State → Type 0)
+      → State → List Answer → List (Turn Event) → Type 0
+  FairPages pages due first between m answers [] = Unit {0}
+  FairPages pages due first between m answers (ours s ∷ rest) =
+      Starts (pages m s) (due m) first answers
       × lastStatus answers ≢ 0
-      × (Replied (respond s m .outcome) → All (λ e. 4 + length (e .bytes) ≤ s .limit) due)
-      × FairPages due first (respond s m .memory) (heard 0 (s .limit) (respond s m .outcome) answers) rest
-  FairPages due first m answers (other s ∷ rest) = FairPages due first (respond s m .memory) answers rest
+      × (Replied (hear s m) → All (λ e. 4 + length (e .bytes) ≤ s .limit) (due m))
+      × FairPages pages due first between (after s m) (heard 0 (s .limit) (hear s m) answers) rest
+  FairPages pages due first between m answers (other e ∷ rest) =
+      Quiet rest
+      ⊎ ((due (step e m) ≡ due m) × between e m × FairPages pages due first between (step e m) answers rest)
 
 -- what is claimed of the answered pages, the newest first
 pub record Listed (due : List Entry) (answers : List Answer) : Type 0 where

@@ -1,4 +1,4 @@
--- Point 3 of document 01, said of the definition itself: what is sent, to whom, and what has to hold of it. The claims stand in Reads and Pages.
+-- Point 3 of document 00, said of the definition itself: what is sent, what else may happen, and what has to hold of it. The claims stand in Reads and Pages.
 use mathlib.Core.Path.{_≡_}
 use mathlib.Core.Bool.{true, false}
 use mathlib.Core.List.{List, [], _∷_, _++_}
@@ -6,28 +6,106 @@ use mathlib.Core.Option.{some}
 use Prim.Native.Nat.{ℕ, _*_, _/_, _≤_, _<_}
 use lib.ListN.{length}
 use Rattle.laws.specs.Tests.{every}
-use Rattle.definition.specs.Bytes.{le16, le32}
+use Rattle.definition.specs.Bytes.{u16At, u32At, le16, le32, counted}
 use Rattle.definition.specs.Segment.{Segment, segments}
-use Rattle.definition.specs.Request.{isTagPath}
+use Rattle.definition.specs.Request.{request, requestOf, isTagPath}
 use Rattle.definition.specs.Tables.{Tables, Flags}
 use Rattle.definition.specs.Valid.{valid}
 use Rattle.definition.specs.Access.{tagTarget}
-use Rattle.definition.specs.Read.{Selection, granted, askTarget}
-use Rattle.definition.specs.Symbols.{isListed, pageStart}
-use Rattle.definition.specs.Entry.{Entered, entry}
-use Rattle.continued.specs.Reads.{Memory, Sent}
+use Rattle.definition.specs.Read.{Selection, selectedBytes, granted, askTarget}
+use Rattle.definition.specs.Symbols.{isListed, pageStart, due}
+use Rattle.definition.specs.Entry.{Outcome, Entered, entry}
+use Rattle.definition.specs.Promises.{Grants}
+use Rattle.continued.specs.Reads.{Sent, Turn, talk, Fair, Delivered}
+use Rattle.continued.specs.Pages.{FairPages, Listed}
 
--- the controller: the definition's entry, over tables and flags that stay
+-- ---- the controller: the definition's entry, over tables and flags that stay; its state is tag memory
+
+abbrev pub Memory : Type 0
+Memory = List ℕ
+
 unfoldable pub respond : Tables → Flags → Sent → Memory → Entered
 respond t f s m = entry t f m (s .request) (s .limit) (s .buffer)
+
+abbrev pub hears : Tables → Flags → Sent → Memory → Outcome
+hears t f s m = respond t f s m .outcome
+
+abbrev pub leaves : Tables → Flags → Sent → Memory → Memory
+leaves t f s m = respond t f s m .memory
+
+-- what else may happen: any other message, or somebody else leaves tag memory like this
+pub data Event : Type 0 where
+  message : Sent → Event
+  changed : Memory → Event
+
+abbrev pub steps : Tables → Flags → Event → Memory → Memory
+steps t f (message s) m = leaves t f s m
+steps t f (changed left) m = left
+
+-- what may fall between two of ours: any message, and a change that leaves as many bytes
+abbrev pub Between : Event → Memory → Type 0
+Between (message s) m = Unit {0}
+Between (changed left) m = length left ≡ length m
+
+-- ---- continued reads
+
+-- a continued read in any bytes: what the definition reads as a 0x52 of these segments, this element count and this offset, whatever follows the fields
+pub record Asks (path : List Segment) (elements : ℕ) (message : List ℕ) (offset : ℕ) : Type 0 where
+  pub body : List ℕ
+  pub is : requestOf message ≡ request 0x52 path body
+  pub fields : 6 ≤ length body
+  pub count-is : u16At body 0 ≡ elements
+  pub offset-is : u32At body 2 ≡ offset
+
+abbrev pub Reads : (path : List Segment) (elements : ℕ) → Memory → Sent → ℕ → Type 0
+Reads path elements m s offset = Asks path elements (s .request) offset
+
+abbrev pub FairReads : Tables → Flags → (reads : Memory → Sent → ℕ → Type 0) → Selection → Memory → List (Turn Event) → Type 0
+FairReads t f reads s m turns = Fair (hears t f) (leaves t f) (steps t f) reads (selectedBytes s) Between (length (s .header)) m [] turns
+
+abbrev pub ReadsDeliver : Tables → Flags → Selection → Memory → List (Turn Event) → Type 0
+ReadsDeliver t f s m turns = Delivered (selectedBytes s m) (length (s .header)) (talk (hears t f) (leaves t f) (steps t f) (length (s .header)) m [] turns)
+
+-- valid tables, and a path and element count that are granted (by `Not-refused` of the definition's Promises: the read at offset 0 has status 0x00 or 0x06)
+abbrev pub Continued-reads : Type 0
+Continued-reads =
+    (t : Tables) (f : Flags) (path : List Segment) (elements : ℕ) (g : Grants t f path elements) (m : Memory) (turns : List (Turn Event))
+    → valid t (length m) ≡ true → FairReads t f (Reads path elements) (g .selected) m turns → ReadsDeliver t f (g .selected) m turns
+
+-- ---- continued pages
+
+-- a continued page in any bytes: what the definition reads as a 0x55 of this scope, start ID and attribute list
+pub record AsksPage (t : Tables) (scope : ℕ) (attributes : List ℕ) (message : List ℕ) (id : ℕ) : Type 0 where
+  pub path : List Segment
+  pub body : List ℕ
+  pub is : requestOf message ≡ request 0x55 path body
+  pub starts : pageStart t path ≡ some (record { scope = scope; id = id })
+  pub list-is : counted body ≡ some attributes
+
+abbrev pub Pages : Tables → (scope : ℕ) (attributes : List ℕ) → Memory → Sent → ℕ → Type 0
+Pages t scope attributes m s id = AsksPage t scope attributes (s .request) id
+
+abbrev pub FairList : Tables → Flags → (pages : Memory → Sent → ℕ → Type 0) → (scope : ℕ) (attributes : List ℕ) (first : ℕ) → Memory → List (Turn Event) → Type 0
+FairList t f pages scope attributes first m turns =
+    FairPages (hears t f) (leaves t f) (steps t f) pages (λ m. due t scope attributes first) first Between m [] turns
+
+abbrev pub PagesDeliver : Tables → Flags → (scope : ℕ) (attributes : List ℕ) (first : ℕ) → Memory → List (Turn Event) → Type 0
+PagesDeliver t f scope attributes first m turns = Listed (due t scope attributes first) (talk (hears t f) (leaves t f) (steps t f) 0 m [] turns)
+
+-- valid tables, and an attribute list that is accepted
+abbrev pub Continued-pages : Type 0
+Continued-pages =
+    (t : Tables) (f : Flags) (scope : ℕ) (attributes : List ℕ) (first : ℕ) (m : Memory) (turns : List (Turn Event))
+    → valid t (length m) ≡ true → every isListed attributes ≡ true
+    → FairList t f (Pages t scope attributes) scope attributes first m turns → PagesDeliver t f scope attributes first m turns
+
+-- ---- the same for exact bytes, as `read_whole` and `list_whole` send them
 
 -- a path's bytes as a request carries them: whole 16-bit words, at most 255 of them, which decode to these segments
 pub record Encodes (path : List ℕ) (decoded : List Segment) : Type 0 where
   pub whole-words : 2 * (length path / 2) ≡ length path
   pub one-byte : length path / 2 ≤ 255
   pub decodes : segments path ≡ some decoded
-
--- ---- continued reads
 
 -- the exact bytes of a 0x52 request for a path, an element count and an offset
 unfoldable pub readRequest : (path : List ℕ) (elements offset : ℕ) → List ℕ
@@ -42,10 +120,13 @@ pub record Readable (t : Tables) (f : Flags) (m : Memory) (path : List ℕ) (ele
   pub count : elements < 65536
   pub grants : askTarget (t .structures) (tagTarget t f false decoded) elements ≡ granted s
 
-abbrev pub Reads : (path : List ℕ) (elements : ℕ) (request : List ℕ) (offset : ℕ) → Type 0
-Reads path elements request offset = request ≡ readRequest path elements offset
+abbrev pub ExactReads : (path : List ℕ) (elements : ℕ) → Memory → Sent → ℕ → Type 0
+ExactReads path elements m s offset = s .request ≡ readRequest path elements offset
 
--- ---- continued pages
+abbrev pub Exact-reads : Type 0
+Exact-reads =
+    (t : Tables) (f : Flags) (path : List ℕ) (elements : ℕ) (s : Selection) (m : Memory) (turns : List (Turn Event))
+    → Readable t f m path elements s → FairReads t f (ExactReads path elements) s m turns → ReadsDeliver t f s m turns
 
 abbrev pub numberBytes : List ℕ → List ℕ
 numberBytes [] = []
@@ -67,5 +148,11 @@ pub record Starts-at (t : Tables) (scope id : ℕ) (path : List ℕ) : Type 0 wh
   pub encodes : Encodes path decoded
   pub starts : pageStart t decoded ≡ some (record { scope = scope; id = id })
 
-abbrev pub Pages : Tables → (scope : ℕ) (attributes request : List ℕ) (id : ℕ) → Type 0
-Pages t scope attributes request id = (path : List ℕ) × Starts-at t scope id path × (request ≡ pageRequest path attributes)
+abbrev pub ExactPages : Tables → (scope : ℕ) (attributes : List ℕ) → Memory → Sent → ℕ → Type 0
+ExactPages t scope attributes m s id = (path : List ℕ) × Starts-at t scope id path × (s .request ≡ pageRequest path attributes)
+
+abbrev pub Exact-pages : Type 0
+Exact-pages =
+    (t : Tables) (f : Flags) (scope : ℕ) (attributes : List ℕ) (first : ℕ) (m : Memory) (turns : List (Turn Event))
+    → Listable t m attributes
+    → FairList t f (ExactPages t scope attributes) scope attributes first m turns → PagesDeliver t f scope attributes first m turns

@@ -1,15 +1,12 @@
--- Document 01, "Fragment", point 3: the continued reads. What a list of messages leaves behind, the premises on the list, and what is claimed of it.
--- Over any controller: `respond` says what a sent message comes to, from a tag memory.
+-- Point 3 of document 00, with document 01, "Fragment": the continued reads. What a list of turns leaves behind, the premises on the list, and what is
+-- claimed of it. Over any controller and anything that may happen to it: a turn is one of ours, which is a message, or an event.
 use mathlib.Core.Path.{_≡_}
-use mathlib.Core.Logic.{_↔_, _≢_}
+use mathlib.Core.Logic.{_↔_, _≢_, _⊎_}
 use mathlib.Core.List.{List, [], _∷_, _++_}
 use Prim.Native.Nat.{ℕ, _+_, _≤_, _<_, min}
 use lib.ListN.{length, take, drop, getD}
 use Rattle.definition.specs.Fragment.{space, replyCount}
-use Rattle.definition.specs.Entry.{Outcome, refused, replied, Entered}
-
-abbrev pub Memory : Type 0
-Memory = List ℕ
+use Rattle.definition.specs.Entry.{Outcome, refused, replied}
 
 -- a message with its limit and its reply buffer
 pub record Sent : Type 0 where
@@ -17,10 +14,10 @@ pub record Sent : Type 0 where
   pub limit : ℕ
   pub buffer : List ℕ
 
--- one of the continued messages, or any other
-pub data Turn : Type 0 where
-  ours : Sent → Turn
-  other : Sent → Turn
+-- one of the continued messages, or anything else that happens between them
+pub data Turn (Event : Type 0) : Type 0 where
+  ours : Sent → Turn Event
+  other : Event → Turn Event
 
 -- an answered message: its limit, its general status and its data past the type header
 pub record Answer : Type 0 where
@@ -52,7 +49,7 @@ abbrev pub Each : (Answer → Type 0) → List Answer → Type 0
 Each P [] = Unit {0}
 Each P (a ∷ before) = P a × Each P before
 
--- ---- the list of messages
+-- ---- the list of turns
 
 -- what is heard of a message, h bytes of type header left out: of an entry refusal nothing
 abbrev pub heard : (h limit : ℕ) → Outcome → List Answer → List Answer
@@ -63,25 +60,33 @@ abbrev pub Replied : Outcome → Type 0
 Replied (refused k) = ⊥
 Replied (replied r) = Unit {0}
 
-module _ (respond : Sent → Memory → Entered) where
-  -- the answers to the continued messages of a list, each message given the memory that the one before left
-  unfoldable pub talk : (h : ℕ) → Memory → List Answer → List Turn → List Answer
+-- none of ours is left
+abbrev pub Quiet : {Event : Type 0} → List (Turn Event) → Type 0
+Quiet [] = Unit {0}
+Quiet (ours s ∷ rest) = ⊥
+Quiet (other e ∷ rest) = Quiet rest
+
+-- over any controller: what a message is answered from a state, the state that it leaves, and the state that an event leaves
+module _ {State Event : Type 0} (hear : Sent → State → Outcome) (after : Sent → State → State) (step : Event → State → State) where
+  -- the answers to the continued messages of a list, each turn given the state that the one before left
+  unfoldable pub talk : (h : ℕ) → State → List Answer → List (Turn Event) → List Answer
   talk h m answers [] = answers
-  talk h m answers (ours s ∷ rest) = let e = respond s m in talk h (e .memory) (heard h (s .limit) (e .outcome) answers) rest
-  talk h m answers (other s ∷ rest) = talk h (respond s m .memory) answers rest
+  talk h m answers (ours s ∷ rest) = talk h (after s m) (heard h (s .limit) (hear s m) answers) rest
+  talk h m answers (other e ∷ rest) = talk h (step e m) answers rest
 
   -- the premises on the list: each of ours is the read at the number of value bytes received, none follows status 0, an answered one has a
-  -- limit of at least 5 plus the type header; no other message changes a selected byte
-  unfoldable pub Fair : (reads : List ℕ → ℕ → Type 0) (selected : Memory → List ℕ) (h : ℕ) → Memory → List Answer → List Turn → Type 0
-  Fair reads selected h m answers [] = Unit {0}
-  Fair reads selected h m answers (ours s ∷ rest) =
-      reads (s .request) (length (joined answers))
+  -- limit of at least 5 plus the type header; with one of ours behind it, an event changes no selected byte and is one that may fall between
+  unfoldable pub Fair : (reads : State → Sent → ℕ → Type 0) (selected : State → List ℕ) (between : Event → State → Type 0) (h : ℕ)
+      → State → List Answer → List (Turn Event) → Type 0
+  Fair reads selected between h m answers [] = Unit {0}
+  Fair reads selected between h m answers (ours s ∷ rest) =
+      reads m s (length (joined answers))
       × lastStatus answers ≢ 0
-      × (Replied (respond s m .outcome) → 5 + h ≤ s .limit)
-      × Fair reads selected h (respond s m .memory) (heard h (s .limit) (respond s m .outcome) answers) rest
-  Fair reads selected h m answers (other s ∷ rest) =
-      (selected (respond s m .memory) ≡ selected m)
-      × Fair reads selected h (respond s m .memory) answers rest
+      × (Replied (hear s m) → 5 + h ≤ s .limit)
+      × Fair reads selected between h (after s m) (heard h (s .limit) (hear s m) answers) rest
+  Fair reads selected between h m answers (other e ∷ rest) =
+      Quiet rest
+      ⊎ ((selected (step e m) ≡ selected m) × between e m × Fair reads selected between h (step e m) answers rest)
 
 -- what is claimed of the answers, the newest first, to continued reads of the selected bytes
 pub record Delivered (selected : List ℕ) (h : ℕ) (answers : List Answer) : Type 0 where
