@@ -32,7 +32,7 @@ use Rattle.definition.proofs.Listing.{listing-sorted, listing-some}
 use Rattle.definition.proofs.Selected.{granted-some}
 use Rattle.definition.proofs.Stored.{memory-keeps-its-length}
 use Rattle.continued.specs.Reads.{Sent, Turn, Replied}
-use Rattle.continued.specs.Point3.{Memory, respond, hears, leaves, Event, message, changed, steps, Between, Asks, Reads, FairReads, ReadsDeliver, Continued-reads, AsksPage, Pages, FairList, PagesDeliver, Continued-pages, readRequest, ExactReads, Exact-reads, pageRequest, ExactPages, Exact-pages}
+use Rattle.continued.specs.Point3.{Memory, respond, hears, leaves, Event, message, changed, steps, Between, Asks, Reads, FairReads, ReadsDeliver, Continued-reads, AsksPage, Pages, FairList, PagesDeliver, Continued-pages, readRequest, Readable, ExactReads, Exact-reads, pageRequest, ExactPages, Exact-pages}
 use Rattle.continued.proofs.Talk.{reads-deliver}
 use Rattle.continued.proofs.Listing.{pages-deliver}
 use Rattle.continued.proofs.Requests.{exact-asks, exact-page}
@@ -83,19 +83,22 @@ granted-reply t m (turned status) body limit s b e l = absurd (let z : _≡_ {A 
 granted-reply t m (found g) body limit s b e l = rw (le-ltb, e, lt-leb (length (selectedBytes s m)) (u32At body 2) l)
 
 module _ (t : Tables) (f : Flags) (path : List Segment) (elements : ℕ) (g : Grants t f path elements) where
+  pub answer-asked : (m : Memory) (x : List ℕ) (limit offset : ℕ) → Asks path elements x offset → offset < length (selectedBytes (g .selected) m)
+      → answer t f m x limit ≡ answered (fragmentReply 0x52 (g .selected .header) (drop offset (selectedBytes (g .selected) m)) limit) m
+  unfolding tagService answer plain byService
+  answer-asked m x limit offset q l =
+      rw (
+        q .is,
+        past-objects t f m 0x52 (objectOf path) path (q .body) limit refl refl,
+        g .tag-path,
+        granted-reply t m (tagTarget t f false path) (q .body) limit (g .selected) (q .fields) (rw (q .count-is) (g .granted-is)) (rw (q .offset-is) l),
+        q .offset-is,
+      ) refl
+
   read-law : (x : Sent) (m : Memory) (offset : ℕ) → Asks path elements (x .request) offset → offset < length (selectedBytes (g .selected) m) → Replied (hears t f x m)
       → (respond t f x m .outcome ≡ replied (fragmentReply 0x52 (g .selected .header) (drop offset (selectedBytes (g .selected) m)) (x .limit)))
       × (respond t f x m .memory ≡ m)
-  unfolding tagService answer plain byService
-  read-law x m offset q l p =
-      rw (
-        entered t f x m .0 p,
-        q .is,
-        past-objects t f m 0x52 (objectOf path) path (q .body) (x .limit) refl refl,
-        g .tag-path,
-        granted-reply t m (tagTarget t f false path) (q .body) (x .limit) (g .selected) (q .fields) (rw (q .count-is) (g .granted-is)) (rw (q .offset-is) l),
-        q .offset-is,
-      ) (refl, refl)
+  read-law x m offset q l p = rw (entered t f x m .0 p, answer-asked m (x .request) (x .limit) offset q l) (refl, refl)
 
   -- of any notion of a read that is such a read where something is selected
   reads-of : (reads : Memory → Sent → ℕ → Type 0)
@@ -109,11 +112,26 @@ module _ (t : Tables) (f : Flags) (path : List Segment) (elements : ℕ) (g : Gr
 pub continued-reads : Continued-reads
 continued-reads t f path elements g = reads-of t f path elements g (Reads path elements) (λ x m offset v q l. q)
 
+module _ (t : Tables) (f : Flags) (path : List ℕ) (elements : ℕ) (s : Selection) (m : Memory) (r : Readable t f m path elements s) where
+  granted-exact : Grants t f (r .decoded) elements
+  granted-exact = record { tag-path = r .tag-path; selected = s; granted-is = r .grants }
+
+  asks-exact : (offset : ℕ) → offset ≤ 65536 → Asks (r .decoded) elements (readRequest path elements offset) offset
+  asks-exact offset low =
+      rw (← append-nil (readRequest path elements offset)) (exact-asks path (r .decoded) elements offset [] (r .encodes) (r .count) (omega arith))
+
+  pub exact-answer : (offset limit : ℕ) → offset < length (selectedBytes s m)
+      → answer t f m (readRequest path elements offset) limit ≡ answered (fragmentReply 0x52 (s .header) (drop offset (selectedBytes s m)) limit) m
+  unfolding granted-exact
+  exact-answer offset limit l =
+      answer-asked t f (r .decoded) elements granted-exact m (readRequest path elements offset) limit offset
+      (asks-exact offset (omega (arith, selected-few t s m (r .tables)))) l
+
 pub exact-reads : Exact-reads
+unfolding granted-exact
 exact-reads t f path elements s m turns r =
-    reads-of t f (r .decoded) elements (record { tag-path = r .tag-path; selected = s; granted-is = r .grants }) (ExactReads path elements)
-    (λ x m offset v q l. rw (q, ← append-nil (readRequest path elements offset)) (exact-asks path (r .decoded) elements offset [] (r .encodes) (r .count) (omega (arith, selected-few t s m v))))
-    m turns (r .tables)
+    reads-of t f (r .decoded) elements (granted-exact t f path elements s m r) (ExactReads path elements)
+    (λ x n offset v q l. rw q (asks-exact t f path elements s m r offset (omega (arith, selected-few t s n v)))) m turns (r .tables)
 
 -- ---- pages
 

@@ -21,7 +21,7 @@ use Rattle.logix.specs.declared.entry.Outcome.{Outcome as Result}
 use Rattle.logix.specs.declared.entry.Outcome.the-variants.{Reply, Refused}
 use Rattle.continued.specs.Reads.{Sent, Turn, ours, other, Answer, heard, talk}
 use Rattle.continued.specs.Point3.{Memory, respond, hears, leaves, Event, message, changed, steps}
-use Rattle.continued.specs.Program.{Runs, ended, next-ours, next-other, Step, ByStep, ByEvent, RunsOf, Leaves, Faithful, Total, Program-reads, Program-pages, Runs-exist, told, ByMessage, Taken, ByAnswer, Message-is-faithful, Answer-is-faithful}
+use Rattle.continued.specs.Program.{Runs, ended, next-ours, next-other, Step, ByStep, ByEvent, RunsOf, Leaves, Faithful, Total, Reads-delivered, Pages-listed, Program-point-3, Runs-exist, told, ByMessage, Taken, ByAnswer, Message-point-3, Answer-point-3}
 use Rattle.continued.proofs.Point3.{continued-reads, continued-pages}
 
 -- ---- over any states and events: a run whose turns leave what the controller leaves hears what it says
@@ -66,13 +66,16 @@ module _ (t : Tables) (f : Flags) (step : Step) (faithful : Faithful t f step) w
       → out ≡ talk (hears t f) (leaves t f) (steps t f) h m [] turns
   run-is h m turns out = runs-talk (hears t f) (leaves t f) (steps t f) (ByStep step) (ByEvent step) hears-is steps-is h m [] turns out
 
-pub program-reads : Program-reads
-program-reads t f step faithful path elements g m turns out v fair run =
-    rw (run-is t f step faithful (length (g .selected .header)) m turns out run) (continued-reads t f path elements g m turns v fair)
+pub program-point-3 : Program-point-3
+program-point-3 t f step faithful = (reads, pages)
+  where
+    reads : Reads-delivered t f step
+    reads path elements g m turns out v fair run =
+        rw (run-is t f step faithful (length (g .selected .header)) m turns out run) (continued-reads t f path elements g m turns v fair)
 
-pub program-pages : Program-pages
-program-pages t f step faithful scope attributes first m turns out v accepted fair run =
-    rw (run-is t f step faithful 0 m turns out run) (continued-pages t f scope attributes first m turns v accepted fair)
+    pages : Pages-listed t f step
+    pages scope attributes first m turns out v accepted fair run =
+        rw (run-is t f step faithful 0 m turns out run) (continued-pages t f scope attributes first m turns v accepted fair)
 
 pub runs-exist : Runs-exist
 runs-exist step total h m answers turns =
@@ -133,8 +136,8 @@ result-of t f s m = go (enters t f m (s .request) (s .limit) (s .buffer))
     go (stopped number a b e) = let x = refusal-by number a b in (Refused (x .0), rw e (x .1))
     go (taken a b c d e) = (Reply (length (answer t f m (s .request) (s .limit) .reply)), rw e refl)
 
-pub message-is-faithful : Message-is-faithful
-message-is-faithful t f = (faithful, total)
+pub message-point-3 : Message-point-3
+message-point-3 t f = (program-point-3 t f (ByMessage t f) faithful, total)
   where
     faithful : Faithful t f (ByMessage t f)
     faithful s m o buffer left (r, e, x) =
@@ -155,8 +158,8 @@ laid-by t f s m k =
     rw (le-ltb 65535 (length (s .request)) (k .request-fits), le-ltb 65535 (s .limit) (k .limit-fits), le-ltb (length (s .buffer)) (room (s .limit)) (k .has-room), k .tables)
     refl
 
-pub answer-is-faithful : Answer-is-faithful
-answer-is-faithful t f = (faithful, total)
+pub answer-point-3 : Answer-point-3
+answer-point-3 t f = (program-point-3 t f (ByAnswer t f) faithful, total)
   where
     faithful : Faithful t f (ByAnswer t f)
     faithful s m o buffer left (k, n, e, x) =

@@ -110,19 +110,3 @@ pub to-service : (t : Tables) (f : Flags) (m : Memory) (service : ℕ) (path : L
 unfolding answer plain
 to-service t f m service path decoded body limit e a b c =
     rw (decoded-request service path decoded body e, a) (past-objects t f m service (objectOf decoded) decoded body limit b c)
-
-pub answer-read : (t : Tables) (f : Flags) (m : Memory) (path : List ℕ) (decoded : List Segment) (elements offset limit : ℕ)
-    → Encodes path decoded → isTagPath decoded ≡ true
-    → answer t f m (readRequest path elements offset) limit ≡ tagService t f m 0x52 decoded (le16 elements ++ le32 offset) limit
-unfolding readRequest byService
-answer-read t f m path decoded elements offset limit e tag =
-    rw (append-assoc path (le16 elements) (le32 offset), to-service t f m 0x52 path decoded (le16 elements ++ le32 offset) limit e refl refl refl, tag)
-
-pub answer-page : (t : Tables) (f : Flags) (m : Memory) (path : List ℕ) (decoded : List Segment) (attributes : List ℕ) (limit : ℕ)
-    → Encodes path decoded
-    → answer t f m (pageRequest path attributes) limit
-    ≡ answered (listSymbols t 0x55 decoded (le16 (length attributes) ++ numberBytes attributes) limit) m
-unfolding pageRequest byService
-answer-page t f m path decoded attributes limit e =
-    rw (append-assoc path (le16 (length attributes)) (numberBytes attributes))
-    (to-service t f m 0x55 path decoded (le16 (length attributes) ++ numberBytes attributes) limit e refl refl refl)

@@ -61,24 +61,29 @@ Faithful t f step = (s : Sent) (m : Memory) (o : Outcome) (buffer left : List �
 abbrev pub Total : Step → Type 0
 Total step = (s : Sent) (m : Memory) → (o : Outcome) × (buffer left : List ℕ) × step s m o buffer left
 
--- ---- what is claimed
+-- ---- what is claimed of a program's runs
 
-abbrev pub Program-reads : Type 1
-Program-reads =
-    (t : Tables) (f : Flags) (step : Step) → Faithful t f step
-    → (path : List Segment) (elements : ℕ) (g : Grants t f path elements) (m : Memory) (turns : List (Turn Event)) (out : List Answer)
+abbrev pub Reads-delivered : Tables → Flags → Step → Type 0
+Reads-delivered t f step =
+    (path : List Segment) (elements : ℕ) (g : Grants t f path elements) (m : Memory) (turns : List (Turn Event)) (out : List Answer)
     → valid t (length m) ≡ true → FairReads t f (Reads path elements) (g .selected) m turns
     → RunsOf step (length (g .selected .header)) m [] turns out
     → Delivered (selectedBytes (g .selected) m) (length (g .selected .header)) out
 
-abbrev pub Program-pages : Type 1
-Program-pages =
-    (t : Tables) (f : Flags) (step : Step) → Faithful t f step
-    → (scope : ℕ) (attributes : List ℕ) (first : ℕ) (m : Memory) (turns : List (Turn Event)) (out : List Answer)
+abbrev pub Pages-listed : Tables → Flags → Step → Type 0
+Pages-listed t f step =
+    (scope : ℕ) (attributes : List ℕ) (first : ℕ) (m : Memory) (turns : List (Turn Event)) (out : List Answer)
     → valid t (length m) ≡ true → every isListed attributes ≡ true
     → FairList t f (Pages t scope attributes) scope attributes first m turns
     → RunsOf step 0 m [] turns out
     → Listed (due t scope attributes first) out
+
+abbrev pub Point-3 : Tables → Flags → Step → Type 0
+Point-3 t f step = Reads-delivered t f step × Pages-listed t f step
+
+-- of every program whose steps leave what the definition leaves
+abbrev pub Program-point-3 : Type 1
+Program-point-3 = (t : Tables) (f : Flags) (step : Step) → Faithful t f step → Point-3 t f step
 
 -- every list of turns has a run, from every memory
 abbrev pub Runs-exist : Type 1
@@ -106,8 +111,10 @@ abbrev pub ByAnswer : Tables → Flags → Step
 ByAnswer t f s m o buffer left =
     Taken t s m × (n : ℕ) × (o ≡ replied (take n buffer)) × Answers (s .limit) (answer t f m (s .request) (s .limit)) (s .buffer) n buffer left
 
-abbrev pub Message-is-faithful : Type 0
-Message-is-faithful = (t : Tables) (f : Flags) → Faithful t f (ByMessage t f) × Total (ByMessage t f)
+abbrev pub Message-point-3 : Type 0
+Message-point-3 = (t : Tables) (f : Flags) → Point-3 t f (ByMessage t f) × Total (ByMessage t f)
 
-abbrev pub Answer-is-faithful : Type 0
-Answer-is-faithful = (t : Tables) (f : Flags) → Faithful t f (ByAnswer t f) × ((s : Sent) (m : Memory) → Taken t s m → (o : Outcome) × (buffer left : List ℕ) × ByAnswer t f s m o buffer left)
+abbrev pub Answer-point-3 : Type 0
+Answer-point-3 =
+    (t : Tables) (f : Flags)
+    → Point-3 t f (ByAnswer t f) × ((s : Sent) (m : Memory) → Taken t s m → (o : Outcome) × (buffer left : List ℕ) × ByAnswer t f s m o buffer left)

@@ -27,8 +27,7 @@ use Rattle.definition.specs.Answer.{onTarget, tagService, anyRequest, answer}
 use Rattle.definition.proofs.Replies.{plain-all}
 use Rattle.cip.specs.Writes.{Written}
 use Rattle.continued.specs.Point3.{readRequest, Readable}
-use Rattle.continued.proofs.Requests.{answer-read}
-use Rattle.continued.proofs.Point3.{selected-few, granted-reply}
+use Rattle.continued.proofs.Point3.{exact-answer}
 use Rattle.pallet.specs.Whole.{ifGranted, chosenBy, chosen, isSendable}
 
 -- ---- the bytes
@@ -115,7 +114,4 @@ module _ (t : Tables) (f : Flags) (m path : List ℕ) (elements : ℕ) (s : Sele
 
   pub selected-answer : (offset limit : ℕ) → Readable t f m path elements s → offset < length (selectedBytes s m)
       → answer t f m (readRequest path elements offset) limit ≡ answered (fragmentReply 0x52 (s .header) (drop offset (selectedBytes s m)) limit) m
-  unfolding tagService
-  selected-answer offset limit r l =
-      answer-read t f m path (r .decoded) elements offset limit (r .encodes) (r .tag-path)
-      ∙ granted-reply t m (tagTarget t f false (r .decoded)) elements offset limit s (r .grants) (r .count) (omega (arith, selected-few t s m (r .tables))) l
+  selected-answer offset limit r l = exact-answer t f path elements s m r offset limit l
