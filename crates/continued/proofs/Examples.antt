@@ -3,7 +3,6 @@
 use mathlib.Core.Path.{_≡_, refl, sym, subst}
 use mathlib.Core.Logic.{inl, inr}
 use mathlib.Core.List.{List, [], _∷_, _++_, map, append-nil}
-use mathlib.Core.Option.{some}
 use Prim.Native.Nat.{ℕ, zero, suc, _+_, _≤_, _<_}
 use native.Mathlib.Omega.{arith}
 use lib.Dec.{lit≤}
@@ -15,12 +14,11 @@ use Rattle.definition.specs.Computed.{compute}
 use Rattle.definition.specs.Segment.{Segment, class, instance, symbol}
 use Rattle.definition.specs.Tables.{Tables}
 use Rattle.definition.specs.Read.{selectedBytes}
-use Rattle.definition.specs.Symbols.{due}
 use Rattle.definition.specs.Entry.{Entered, refuse, entry}
 use Rattle.definition.specs.Promises.{Grants}
 use Rattle.continued.specs.Reads.{Sent, Turn, ours, other, Answer, joined, heard, talk, Fair}
 use Rattle.continued.specs.Pages.{FairPages}
-use Rattle.continued.specs.Point3.{Memory, respond, hears, leaves, Event, message, changed, steps, Between, Asks, Reads, FairReads, ReadsDeliver, AsksPage, Pages, FairList, PagesDeliver, Encodes, readRequest, pageRequest}
+use Rattle.continued.specs.Point3.{respond, hears, leaves, Event, message, changed, steps, Between, Asks, Reads, FairReads, ReadsDeliver, Pages, FairList, PagesDeliver, Encodes, readRequest, pageRequest}
 use Rattle.continued.proofs.Point3.{continued-reads, continued-pages}
 use Rattle.continued.proofs.Requests.{exact-asks}
 
@@ -90,15 +88,48 @@ rows-come = (refl, refl)
 
 fair : FairReads pallet palletFlags (Reads rowsPath 10) (granted-rows .selected) palletStart turns
 unfolding computed granted-rows
-fair =
-    (asks 0 [] (lit≤ tt), omega arith, λ r. absurd r,
-    (asks 0 [] (lit≤ tt), omega arith, λ r. absurd r,
-    inr (refl, tt, inr (refl, tt, inr (refl, tt,
-    (asks 0 (0xAA ∷ 0xBB ∷ []) (lit≤ tt), omega arith, λ r. lit≤ tt,
-    inr (refl, refl,
-    (asks 16 [] (lit≤ tt), omega arith, λ r. lit≤ tt,
-    (asks 19 [] (lit≤ tt), omega arith, λ r. absurd r,
-    (asks 19 [] (lit≤ tt), omega arith, λ r. lit≤ tt, inl tt))))))))))
+fair = (
+  asks 0 [] (lit≤ tt),
+  omega arith,
+  λ r. absurd r,
+  (
+    asks 0 [] (lit≤ tt),
+    omega arith,
+    λ r. absurd r,
+    inr (
+      refl,
+      tt,
+      inr (
+        refl,
+        tt,
+        inr (
+          refl,
+          tt,
+          (
+            asks 0 (0xAA ∷ 0xBB ∷ []) (lit≤ tt),
+            omega arith,
+            λ r. lit≤ tt,
+            inr (
+              refl,
+              refl,
+              (
+                asks 16 [] (lit≤ tt),
+                omega arith,
+                λ r. lit≤ tt,
+                (
+                  asks 19 [] (lit≤ tt),
+                  omega arith,
+                  λ r. absurd r,
+                  (asks 19 [] (lit≤ tt), omega arith, λ r. lit≤ tt, inl tt),
+                ),
+              ),
+            ),
+          ),
+        ),
+      ),
+    ),
+  ),
+)
 
 -- before them a read that is too long for the entry: refusal 1
 module _ (more : List ℕ) (many : 65536 ≤ length more) where
@@ -184,10 +215,10 @@ hall = record {
   members = pallet .members;
   programs = (8 ∷ 3 ∷ []) ∷ [];
   tags =
-    (0 ∷ 0 ∷ 5 ∷ 1 ∷ 0xC4 ∷ 0 ∷ 0 ∷ 0 ∷ 1 ∷ 0 ∷ 0 ∷ 0 ∷ [])
-    ∷ (1 ∷ 5 ∷ 4 ∷ 2 ∷ 0xC4 ∷ 10 ∷ 0 ∷ 0 ∷ 10 ∷ 0 ∷ 0 ∷ 4 ∷ [])
-    ∷ (1 ∷ 9 ∷ 4 ∷ 0xFFFFFFFF ∷ 0x100 ∷ 0 ∷ 0 ∷ 0 ∷ 1 ∷ 0 ∷ 0 ∷ 44 ∷ [])
-    ∷ [];
+      (0 ∷ 0 ∷ 5 ∷ 1 ∷ 0xC4 ∷ 0 ∷ 0 ∷ 0 ∷ 1 ∷ 0 ∷ 0 ∷ 0 ∷ [])
+      ∷ (1 ∷ 5 ∷ 4 ∷ 2 ∷ 0xC4 ∷ 10 ∷ 0 ∷ 0 ∷ 10 ∷ 0 ∷ 0 ∷ 4 ∷ [])
+      ∷ (1 ∷ 9 ∷ 4 ∷ 0xFFFFFFFF ∷ 0x100 ∷ 0 ∷ 0 ∷ 0 ∷ 1 ∷ 0 ∷ 0 ∷ 44 ∷ [])
+      ∷ [];
   others = [];
   names = palletNames;
   tagNames = palletTagNames;
@@ -217,12 +248,26 @@ segmentsFromId id = symbol (0x50 ∷ 0x72 ∷ 0x6F ∷ 0x67 ∷ 0x72 ∷ 0x61 �
 
 fair-pages : FairList hall palletFlags (Pages hall 1 (1 ∷ 2 ∷ [])) 1 (1 ∷ 2 ∷ []) 0 palletStart pages
 unfolding computed hall
-fair-pages =
-    (record { path = segmentsFromId 0; body = 2 ∷ 0 ∷ 1 ∷ 0 ∷ 2 ∷ 0 ∷ []; is = refl; starts = refl; list-is = refl }, omega arith, λ r. absurd r,
-    (record { path = segmentsFromId 0; body = 2 ∷ 0 ∷ 1 ∷ 0 ∷ 2 ∷ 0 ∷ 0xAA ∷ []; is = refl; starts = refl; list-is = refl }, omega arith, λ r. (lit≤ tt, (lit≤ tt, tt)),
-    inr (refl, refl,
-    ((0, lit≤ tt, refl, record { path = segmentsFromId 3; body = 2 ∷ 0 ∷ 1 ∷ 0 ∷ 2 ∷ 0 ∷ []; is = refl; starts = refl; list-is = refl }), omega arith,
-    λ r. (lit≤ tt, (lit≤ tt, tt)), inl tt))))
+fair-pages = (
+  record { path = segmentsFromId 0; body = 2 ∷ 0 ∷ 1 ∷ 0 ∷ 2 ∷ 0 ∷ []; is = refl; starts = refl; list-is = refl },
+  omega arith,
+  λ r. absurd r,
+  (
+    record { path = segmentsFromId 0; body = 2 ∷ 0 ∷ 1 ∷ 0 ∷ 2 ∷ 0 ∷ 0xAA ∷ []; is = refl; starts = refl; list-is = refl },
+    omega arith,
+    λ r. (lit≤ tt, (lit≤ tt, tt)),
+    inr (
+      refl,
+      refl,
+      (
+        (0, lit≤ tt, refl, record { path = segmentsFromId 3; body = 2 ∷ 0 ∷ 1 ∷ 0 ∷ 2 ∷ 0 ∷ []; is = refl; starts = refl; list-is = refl }),
+        omega arith,
+        λ r. (lit≤ tt, (lit≤ tt, tt)),
+        inl tt,
+      ),
+    ),
+  ),
+)
 
 pages-listed : PagesDeliver hall palletFlags 1 (1 ∷ 2 ∷ []) 0 palletStart pages
 unfolding computed hall

@@ -1,6 +1,6 @@
 -- Point 3 of a program: every run hears what the definition's entry says, so both theorems of Point3 hold of what it hears; and there are such runs.
 -- Assumes nothing.
-use mathlib.Core.Path.{_≡_, refl, sym, ap, _∙_}
+use mathlib.Core.Path.{_≡_, refl, ap, _∙_}
 use mathlib.Core.List.{List, [], _∷_}
 use Prim.Native.Nat.{ℕ, zero, suc, _≤_, _<_}
 use native.Mathlib.Omega.{arith}
@@ -11,10 +11,9 @@ use Rattle.laws.proofs.Put.{take-laid}
 use Rattle.definition.specs.Reply.{room}
 use Rattle.definition.specs.Tables.{Tables, Flags}
 use Rattle.definition.specs.Answer.{answer}
-use Rattle.definition.specs.Entry.{Outcome, refused, replied, Entered, refuse, lay, entry}
+use Rattle.definition.specs.Entry.{Outcome, refused, replied, lay, entry}
 use Rattle.definition.proofs.Enters.{Enters as Ways, stopped, taken, enters}
-use Rattle.services.specs.Answers.{Answers}
-use Rattle.logix.specs.Entering.{Says, numberOf, Enters}
+use Rattle.logix.specs.Entering.{Says, numberOf}
 use Rattle.logix.specs.declared.entry.Refusal.{Refusal}
 use Rattle.logix.specs.declared.entry.Refusal.the-variants.{RequestTooLong, LimitTooLarge, BufferTooShort, TablesInvalid}
 use Rattle.logix.specs.declared.entry.Outcome.{Outcome as Result}
@@ -169,6 +168,9 @@ answer-point-3 t f = (program-point-3 t f (ByAnswer t f) faithful, total)
     total : (s : Sent) (m : Memory) → Taken t s m → (o : Outcome) × (buffer left : List ℕ) × ByAnswer t f s m o buffer left
     total s m k =
         let a = answer t f m (s .request) (s .limit) in
-        let buffer = laid (room (s .limit)) (s .buffer) (a .reply) in
-        (replied (take (length (a .reply)) buffer), buffer, a .memory,
-        (k, length (a .reply), refl, record { length-is = refl; buffer-is = refl; memory-is = refl }))
+        let buffer = laid (room (s .limit)) (s .buffer) (a .reply) in (
+          replied (take (length (a .reply)) buffer),
+          buffer,
+          a .memory,
+          (k, length (a .reply), refl, record { length-is = refl; buffer-is = refl; memory-is = refl }),
+        )

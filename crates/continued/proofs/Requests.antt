@@ -17,12 +17,11 @@ use Rattle.laws.specs.Tests.{every}
 use Rattle.laws.proofs.Chain.{by-test}
 use Rattle.laws.proofs.Tests.{every-All}
 use Rattle.definition.specs.Bytes.{u16At, u32At, le16, le32, numbers, counted}
-use Rattle.definition.specs.Reply.{answered}
 use Rattle.definition.specs.Segment.{Segment}
-use Rattle.definition.specs.Request.{request, requestOf, objectOf, isTagPath}
+use Rattle.definition.specs.Request.{request, requestOf, objectOf}
 use Rattle.definition.specs.Tables.{Tables, Flags}
-use Rattle.definition.specs.Symbols.{isListed, listSymbols}
-use Rattle.definition.specs.Answer.{tagService, byService, plain, answer}
+use Rattle.definition.specs.Symbols.{isListed}
+use Rattle.definition.specs.Answer.{byService, plain, answer}
 use Rattle.definition.proofs.Granted.{past-objects}
 use Rattle.continued.specs.Point3.{Memory, Asks, AsksPage, Encodes, readRequest, numberBytes, pageRequest, Starts-at}
 

@@ -2,14 +2,14 @@
 -- Assumes nothing.
 use mathlib.Core.Path.{_≡_, refl, ap}
 use mathlib.Core.List.{List, [], _∷_}
-use Prim.Native.Nat.{ℕ, zero, suc, _+_, _-_, _*_, _/_, _<_}
+use Prim.Native.Nat.{ℕ, zero, suc, _+_, _-_, _*_, _/_}
 use native.Mathlib.Omega.{arith}
 use lib.Dec.{lit≤, eqb}
 use lib.ListN.{length, getD, take}
 use Rattle.laws.specs.Pick.{pick}
 use Rattle.laws.specs.Put.{put}
 use Rattle.definition.specs.Fragment.{replyCount}
-use Rattle.definition.specs.Pallet.{pallet, palletFlags, palletStart, rows}
+use Rattle.definition.specs.Pallet.{pallet, palletFlags, palletStart}
 use Rattle.definition.specs.Segment.{class, instance}
 use Rattle.definition.specs.Page.{bytesOf}
 use Rattle.definition.specs.Read.{selectedBytes}
@@ -17,7 +17,7 @@ use Rattle.definition.specs.Symbols.{due}
 use Rattle.definition.specs.Entry.{Outcome, refused, replied, Entered}
 use Rattle.continued.specs.Reads.{Sent, Turn, ours, joined, talk, Fair, Delivered}
 use Rattle.continued.specs.Pages.{FairPages, Listed}
-use Rattle.continued.specs.Point3.{Memory, respond, Event, Between, Asks, Reads, AsksPage, Pages, readRequest, pageRequest}
+use Rattle.continued.specs.Point3.{Memory, respond, Event, Between, Reads, AsksPage, Pages, pageRequest}
 use Rattle.continued.proofs.Examples.{computed, sent, rowsPath, granted-rows, row, row-asks}
 
 -- ---- a controller that is the definition's but for its requests or its replies
@@ -59,30 +59,34 @@ Refuted w turns =
 -- one byte is skipped
 skips : Refuted (mistaking 10 suc) (row 22 0 ∷ [])
 unfolding computed granted-rows put
-skips =
-    ((row-asks 0 (lit≤ tt), omega arith, λ r. lit≤ tt, tt),
-    λ d. let z : _≡_ {A = ℕ} 2 1 = ap (λ (l : List ℕ). getD l 0 0) (d .first-of-them) in omega arith)
+skips = (
+  (row-asks 0 (lit≤ tt), omega arith, λ r. lit≤ tt, tt),
+  λ d. let z : _≡_ {A = ℕ} 2 1 = ap (λ (l : List ℕ). getD l 0 0) (d .first-of-them) in omega arith,
+)
 
 -- a byte comes twice
 repeats : Refuted (mistaking 10 (λ n. n - 1)) (row 22 0 ∷ row 22 16 ∷ [])
 unfolding computed granted-rows put
-repeats =
-    ((row-asks 0 (lit≤ tt), omega arith, λ r. lit≤ tt, (row-asks 16 (lit≤ tt), omega arith, λ r. lit≤ tt, tt)),
-    λ d. let z : _≡_ {A = ℕ} 16 17 = ap (λ (l : List ℕ). getD l 16 0) (d .first-of-them) in omega arith)
+repeats = (
+  (row-asks 0 (lit≤ tt), omega arith, λ r. lit≤ tt, (row-asks 16 (lit≤ tt), omega arith, λ r. lit≤ tt, tt)),
+  λ d. let z : _≡_ {A = ℕ} 16 17 = ap (λ (l : List ℕ). getD l 16 0) (d .first-of-them) in omega arith,
+)
 
 -- status 0 too early
 ends-early : Refuted (replying (λ r. put r 2 (0 ∷ []))) (row 22 0 ∷ [])
 unfolding computed granted-rows put
-ends-early =
-    ((row-asks 0 (lit≤ tt), omega arith, λ r. lit≤ tt, tt),
-    λ d. let z : _≡_ {A = ℕ} 16 40 = ap length (d .last-zero .0 refl) in omega arith)
+ends-early = (
+  (row-asks 0 (lit≤ tt), omega arith, λ r. lit≤ tt, tt),
+  λ d. let z : _≡_ {A = ℕ} 16 40 = ap length (d .last-zero .0 refl) in omega arith,
+)
 
 -- status 0 never
 never-ends : Refuted (replying (λ r. put r 2 (6 ∷ []))) (row 100 0 ∷ [])
 unfolding computed granted-rows put
-never-ends =
-    ((row-asks 0 (lit≤ tt), omega arith, λ r. lit≤ tt, tt),
-    λ d. let z : _≡_ {A = ℕ} 6 0 = d .last-zero .1 refl in omega arith)
+never-ends = (
+  (row-asks 0 (lit≤ tt), omega arith, λ r. lit≤ tt, tt),
+  λ d. let z : _≡_ {A = ℕ} 6 0 = d .last-zero .1 refl in omega arith,
+)
 
 -- whole elements only, also where less than one fits: at limit 9 nothing comes
 rounds-all : Refuted (replying (λ r. take (6 + (length r - 6) / 4 * 4) r)) (row 9 0 ∷ [])
@@ -98,10 +102,20 @@ gives-up =
 -- four bytes at a time whatever the limit: too many reads
 crawls : Refuted (λ s m. right (record { request = s .request; limit = 10; buffer = s .buffer }) m) (row 22 0 ∷ row 22 4 ∷ row 22 8 ∷ row 22 12 ∷ [])
 unfolding computed granted-rows replyCount
-crawls =
-    ((row-asks 0 (lit≤ tt), omega arith, λ r. lit≤ tt, (row-asks 4 (lit≤ tt), omega arith, λ r. lit≤ tt,
-    (row-asks 8 (lit≤ tt), omega arith, λ r. lit≤ tt, (row-asks 12 (lit≤ tt), omega arith, λ r. lit≤ tt, tt)))),
-    λ d. omega (arith, d .few (lit≤ tt)))
+crawls = (
+  (
+    row-asks 0 (lit≤ tt),
+    omega arith,
+    λ r. lit≤ tt,
+    (
+      row-asks 4 (lit≤ tt),
+      omega arith,
+      λ r. lit≤ tt,
+      (row-asks 8 (lit≤ tt), omega arith, λ r. lit≤ tt, (row-asks 12 (lit≤ tt), omega arith, λ r. lit≤ tt, tt)),
+    ),
+  ),
+  λ d. omega (arith, d .few (lit≤ tt)),
+)
 
 -- ---- pages of the controller's symbols, names and types; the start ID's byte stands at 5
 
@@ -123,10 +137,15 @@ page-asks id = record { path = class 0x6B ∷ instance id ∷ []; body = 2 ∷ 0
 -- the second page leaves ID 2 out: it has as many bytes as the right one, so that a byte of its ID tells
 leaves-out : RefutedPages (mistaking 5 (λ n. pick (eqb n 0) n (suc n))) (page 17 0 ∷ page 17 2 ∷ [])
 unfolding computed put
-leaves-out =
-    ((page-asks 0, omega arith, λ r. (lit≤ tt, (lit≤ tt, (lit≤ tt, tt))),
-    ((0, lit≤ tt, refl, page-asks 2), omega arith, λ r. (lit≤ tt, (lit≤ tt, (lit≤ tt, tt))), tt)),
-    λ d. go (d .entries) (d .first-of-them))
+leaves-out = (
+  (
+    page-asks 0,
+    omega arith,
+    λ r. (lit≤ tt, (lit≤ tt, (lit≤ tt, tt))),
+    ((0, lit≤ tt, refl, page-asks 2), omega arith, λ r. (lit≤ tt, (lit≤ tt, (lit≤ tt, tt))), tt),
+  ),
+  λ d. go (d .entries) (d .first-of-them),
+)
   where
     go : (n : ℕ) → joined (talk (hearing (mistaking 5 (λ n. pick (eqb n 0) n (suc n)))) (leaving (mistaking 5 (λ n. pick (eqb n 0) n (suc n)))) still 0 palletStart []
         (page 17 0 ∷ page 17 2 ∷ [])) ≡ bytesOf (take n (due pallet 0 attributes 0)) → ⊥
@@ -138,21 +157,28 @@ leaves-out =
 -- each page begins again with the entry before
 begins-again : RefutedPages (mistaking 5 (λ n. n - 1)) (page 29 0 ∷ page 29 3 ∷ [])
 unfolding computed put
-begins-again =
-    ((page-asks 0, omega arith, λ r. (lit≤ tt, (lit≤ tt, (lit≤ tt, tt))),
-    ((1, lit≤ tt, refl, page-asks 3), omega arith, λ r. (lit≤ tt, (lit≤ tt, (lit≤ tt, tt))), tt)),
-    λ d. let z : _≡_ {A = ℕ} 49 37 = ap length (d .last-zero (lit≤ tt) .0 refl) in omega arith)
+begins-again = (
+  (
+    page-asks 0,
+    omega arith,
+    λ r. (lit≤ tt, (lit≤ tt, (lit≤ tt, tt))),
+    ((1, lit≤ tt, refl, page-asks 3), omega arith, λ r. (lit≤ tt, (lit≤ tt, (lit≤ tt, tt))), tt),
+  ),
+  λ d. let z : _≡_ {A = ℕ} 49 37 = ap length (d .last-zero (lit≤ tt) .0 refl) in omega arith,
+)
 
 -- status 0 too early
 page-ends-early : RefutedPages (replying (λ r. put r 2 (0 ∷ []))) (page 29 0 ∷ [])
 unfolding computed put
-page-ends-early =
-    ((page-asks 0, omega arith, λ r. (lit≤ tt, (lit≤ tt, (lit≤ tt, tt))), tt),
-    λ d. let z : _≡_ {A = ℕ} 25 37 = ap length (d .last-zero (lit≤ tt) .0 refl) in omega arith)
+page-ends-early = (
+  (page-asks 0, omega arith, λ r. (lit≤ tt, (lit≤ tt, (lit≤ tt, tt))), tt),
+  λ d. let z : _≡_ {A = ℕ} 25 37 = ap length (d .last-zero (lit≤ tt) .0 refl) in omega arith,
+)
 
 -- status 0 never
 page-never-ends : RefutedPages (replying (λ r. put r 2 (6 ∷ []))) (page 100 0 ∷ [])
 unfolding computed put
-page-never-ends =
-    ((page-asks 0, omega arith, λ r. (lit≤ tt, (lit≤ tt, (lit≤ tt, tt))), tt),
-    λ d. let z : _≡_ {A = ℕ} 6 0 = d .last-zero (lit≤ tt) .1 refl in omega arith)
+page-never-ends = (
+  (page-asks 0, omega arith, λ r. (lit≤ tt, (lit≤ tt, (lit≤ tt, tt))), tt),
+  λ d. let z : _≡_ {A = ℕ} 6 0 = d .last-zero (lit≤ tt) .1 refl in omega arith,
+)

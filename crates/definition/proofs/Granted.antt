@@ -1,13 +1,13 @@
 -- A 0x52 at offset 0 is answered with status 0x00 or 0x06 exactly where it is granted: every other way of the dispatcher turns it away, and a granted
 -- read selects something, so that offset 0 is not past its end.
 -- Assumes nothing.
-use mathlib.Core.Path.{_≡_, refl, sym, ap, subst, _∙_}
+use mathlib.Core.Path.{_≡_, refl, sym, ap}
 use mathlib.Core.Logic.{_⊎_, inl, inr, _↔_}
-use mathlib.Core.Bool.{Bool, true, false}
-use mathlib.Core.List.{List, []}
-use Prim.Native.Nat.{ℕ, _+_, _*_, _≤_}
+use mathlib.Core.Bool.{true, false}
+use mathlib.Core.List.{List}
+use Prim.Native.Nat.{ℕ, _≤_}
 use native.Mathlib.Omega.{arith}
-use lib.Dec.{ltb, leb, eqb}
+use lib.Dec.{leb, eqb}
 use lib.ListN.{length, getD}
 use borrow.Author.Tests.{le-ltb, lt-leb}
 use Rattle.laws.specs.Pick.{either}
@@ -24,7 +24,7 @@ use Rattle.definition.specs.Access.{tagTarget}
 use Rattle.definition.specs.Fragment.{space, statusOf, fragmentReply}
 use Rattle.definition.specs.Read.{Asked, granted, notGranted, ask, askTarget, sendFrom, send, readReply, selectedBytes}
 use Rattle.definition.specs.Answer.{capped, otherwise, onTarget, tagService, byService, byObject, plain, answer}
-use Rattle.definition.specs.Entry.{Entered, replied, entry}
+use Rattle.definition.specs.Entry.{Entered}
 use Rattle.definition.specs.Promises.{Grants, Not-refused}
 use Rattle.definition.proofs.Enters.{Enters, stopped, taken, enters}
 use Rattle.definition.proofs.Replies.{isDone, Refuses, AskedWell, ask-well, TurnsWell, target-well}

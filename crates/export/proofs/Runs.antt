@@ -2,14 +2,11 @@
 -- Assumes nothing.
 use mathlib.Core.Path.{_≡_, refl, ap, _∙_}
 use mathlib.Core.List.{List}
-use Prim.Native.Nat.{ℕ, _+_, _≤_, _<_}
+use Prim.Native.Nat.{ℕ, _+_, _<_}
 use native.Mathlib.Omega.{arith}
-use lib.Dec.{ltb}
 use lib.ListN.{length}
 use borrow.Author.Tests.{lt-ltb, le-ltb}
-use Rattle.definition.specs.Reply.{room}
 use Rattle.definition.specs.Tables.{Tables, Flags}
-use Rattle.definition.specs.Answer.{answer}
 use Rattle.definition.specs.Entry.{Outcome, refused, replied}
 use Rattle.definition.proofs.Enters.{Enters as Ways, stopped, taken, enters}
 use Rattle.definition.proofs.Replies.{proper-answer}

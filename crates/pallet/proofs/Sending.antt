@@ -1,6 +1,6 @@
 -- A read's request: its bytes piece by piece, and what the dispatcher answers it with. Tag memory stays as it was.
 -- Assumes nothing.
-use mathlib.Core.Path.{_≡_, refl, _∙_}
+use mathlib.Core.Path.{_≡_, refl}
 use mathlib.Core.Bool.{true, false}
 use mathlib.Core.List.{List, [], _∷_, _++_}
 use mathlib.Core.Option.{Option, none, some}
