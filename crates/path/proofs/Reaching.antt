@@ -2,115 +2,136 @@
 -- segments says of its i-th.
 -- Assumes nothing.
 use mathlib.Core.Path.{_≡_, refl, sym, ap, subst, _∙_}
-use mathlib.Core.List.{List, [], _∷_}
+use mathlib.Core.List.{List, [], _∷_, map}
 use mathlib.Core.Option.{Option, none, some}
 use Prim.Native.Nat.{ℕ, zero, suc, _-_, _<_, _≤_}
 use native.Mathlib.Omega.{arith}
-use lib.Dec.{ltb}
-use lib.ListN.{length}
-use borrow.Author.Tests.{ltb-true, ltb-false}
-use Rattle.laws.specs.Items.{before}
+use lib.Dec.{ltb, eqb}
+use lib.ListN.{length, length-map}
+use Rattle.laws.specs.Items.{before, items}
 use Rattle.laws.proofs.Chain.{by-test, clash}
-use Rattle.definition.specs.Segment.{Segment as Defined, Step, step, cut, segmentAt, nextOf, segmentsFrom, segments}
+use Rattle.definition.specs.Segment.{Step, cut, segmentAt, nextOf, segmentOf, onlySegments, segmentsFrom}
 use Rattle.path.specs.Decode.{nextAfter}
-use Rattle.path.specs.Nth.{segmentIn, nth, nthIn, Nth, Reached}
+use Rattle.path.specs.Nth.{stepsOf, nth, nthIn, startIn, Nth, Reached}
 use Rattle.path.specs.Paths.{stepOf, NameInside, Decoded, checkBy, checkOf}
 use Rattle.path.specs.declared.Segment.{Segment}
 use Rattle.path.specs.declared.Segment.the-variants.{Invalid}
 use Rattle.path.specs.declared.Check.the-variants.{Segments, Bad}
 use Rattle.path.proofs.Forward.{next-same}
-use Rattle.path.proofs.Segments.{segments-end, segments-cut, segments-step}
 
--- ---- the i-th of the segments from a position on
+-- ---- the i-th of the segments from a position on stands where it starts
 
-nth-next : (a : Defined) (m : Option (List Defined)) (k : ℕ) → nthIn (before a m) (suc k) ≡ nthIn m k
+-- as `startIn`, of the segments from a position on
+abbrev startFrom : (at : ℕ) → List Step → ℕ → ℕ
+startFrom at l zero = at
+startFrom at l (suc k) = nextOf (nth l k)
+
+start-whole : (l : List Step) (k : ℕ) → startFrom 0 l k ≡ startIn (some l) k
+start-whole l zero = refl
+start-whole l (suc k) = refl
+
+start-behind : (at : ℕ) (s : Step) (l : List Step) (k : ℕ) → startFrom (nextOf s) l k ≡ startFrom at (s ∷ l) (suc k)
 unfolding nth
-nth-next a none k = refl
-nth-next a (some l) k = refl
+start-behind at s l zero = refl
+start-behind at s l (suc k) = refl
 
-nth-first : (a : Defined) (m : Option (List Defined)) (s : Defined) → nthIn (before a m) 0 ≡ some s → some a ≡ some s
-unfolding nth
-nth-first a none s e = clash (cc e)
-nth-first a (some l) s e = e
+module _ (path : List ℕ) where
+  abbrev Stands : (at : ℕ) → List Step → Type 0
+  Stands at l = (k : ℕ) → k < length l → nth l k ≡ segmentAt path (startFrom at l k)
 
--- where no segment stands, none stands behind it
-nth-cut : (path : List ℕ) (at k : ℕ) → segmentAt path at ≡ cut → nthIn (segmentsFrom path at) k ≡ none
-unfolding nth
-nth-cut path at k e =
-    by-test (ltb at (length path)) (λ t. rw (segments-cut path at (ltb-true at (length path) t) e))
-    (λ t. rw (segments-end path at (ltb-false at (length path) t)))
+  stands-none : (at : ℕ) → Stands at []
+  stands-none at k h = absurd (omega arith)
+
+  stands-before : (at : ℕ) (l : List Step) → Stands (nextOf (segmentAt path at)) l → Stands at (segmentAt path at ∷ l)
+  unfolding nth
+  stands-before at l f zero h = refl
+  stands-before at l f (suc k) h = f k (omega arith) ∙ ap (segmentAt path) (start-behind at (segmentAt path at) l k)
+
+  stands-by : (at : ℕ) (m : Option (List Step)) → ((l : List Step) → m ≡ some l → Stands (nextOf (segmentAt path at)) l)
+      → (l : List Step) → before (segmentAt path at) m ≡ some l → Stands at l
+  stands-by at none f l e = clash (cc e)
+  stands-by at (some m) f l e = let p : segmentAt path at ∷ m ≡ l = cc e in subst (Stands at) p (stands-before at m (f m refl))
+
+  nothing-stands : (at : ℕ) (l : List Step) → some [] ≡ some l → Stands at l
+  nothing-stands at l e = let p : [] ≡ l = cc e in subst (Stands at) p (stands-none at)
+
+  stands : (fuel e at : ℕ) (l : List Step) → items (segmentAt path) nextOf fuel e at ≡ some l → Stands at l
+  unfolding items
+  stands zero e at l g = by-test (ltb at e) (λ t. clash (cc (rw t at g))) (λ t. nothing-stands at l (rw t at g))
+  stands (suc fuel) e at l g =
+      by-test (ltb at e)
+      (λ t. by-test (eqb (nextOf (segmentAt path at)) 0) (λ z. clash (cc (rw (t, z) at g)))
+      (λ z. stands-by at (items (segmentAt path) nextOf fuel e (nextOf (segmentAt path at))) (stands fuel e (nextOf (segmentAt path at))) l (rw (t, z) at g)))
+      (λ t. nothing-stands at l (rw t at g))
+
+  nth-stands : (l : List Step) → stepsOf path ≡ some l → (k : ℕ) → k < length l → nth l k ≡ segmentAt path (startIn (some l) k)
+  nth-stands l e k h = stands (length path) (length path) 0 l e k h ∙ ap (segmentAt path) (start-whole l k)
 
 -- ---- the walk
 
--- the segment that is looked for, if the path has it, is as many segments on from here; of a path that has none, nothing is said
+-- of a path that has the segment that is looked for: so many segments before it, one starts here; of a path that has none, nothing is said
 pub record Reaching (path : List ℕ) (i at left : ℕ) : Type 0 where
-  pub on : (s : Defined) → nthIn (segments path) i ≡ some s → nthIn (segmentsFrom path at) left ≡ some s
+  pub below : left ≤ i
+  pub on : (l : List Step) → stepsOf path ≡ some l → i < length l → at ≡ startIn (some l) (i - left)
 
 module _ (path : List ℕ) (i : ℕ) where
   pub reaching-start : Reaching path i 0 i
-  reaching-start = record { on = λ s e. e }
-
-  next-by : (at k : ℕ) (s : Defined) (x : Step) → segmentAt path at ≡ x → nthIn (segmentsFrom path at) (suc k) ≡ some s → nthIn (segmentsFrom path (nextOf x)) k ≡ some s
-  next-by at k s (step a next) e g = sym (nth-next a (segmentsFrom path next) k) ∙ ap (λ m. nthIn m (suc k)) (sym (segments-step path at a next e)) ∙ g
-  next-by at k s cut e g = clash (cc (sym (nth-cut path at (suc k) e) ∙ g))
-
-  first-by : (at : ℕ) (s : Defined) (x : Step) → segmentAt path at ≡ x → nthIn (segmentsFrom path at) 0 ≡ some s → segmentIn x ≡ some s
-  first-by at s (step a next) e g = nth-first a (segmentsFrom path next) s (ap (λ m. nthIn m 0) (sym (segments-step path at a next e)) ∙ g)
-  first-by at s cut e g = clash (cc (sym (nth-cut path at 0 e) ∙ g))
+  reaching-start = record { below = omega arith; on = λ l e h. let z : i - i ≡ 0 = omega arith in rw z }
 
   module _ (at : ℕ) (r : Segment) (d : Decoded path at r) where
+    -- the segment that was read is the one of its number
+    read-is : (l : List Step) → stepsOf path ≡ some l → (k : ℕ) → k < length l → at ≡ startIn (some l) k → stepOf path r ≡ nth l k
+    read-is l e k h p = d .is ∙ ap (segmentAt path) p ∙ sym (nth-stands path l e k h)
+
     pub reaching-next : (left : ℕ) → Reaching path i at left → 0 < left → (n : ℕ) → n ≡ nextAfter r → Reaching path i n (left - 1)
     reaching-next left g h n e =
-        let p : left ≡ suc (left - 1) = omega (arith, h) in
+        let b = g .below in
+        let p : suc (i - left) ≡ i - (left - 1) = omega (arith, h, b) in
         record {
-          on = λ s f. rw (e ∙ next-same path r) (next-by at (left - 1) s (stepOf path r) (sym (d .is)) (subst (λ k. nthIn (segmentsFrom path at) k ≡ some s) p (g .on s f)));
+          below = omega (arith, b);
+          on = λ l f k.
+              e ∙ next-same path r ∙ ap nextOf (read-is l f (i - left) (omega (arith, k)) (g .on l f k)) ∙ ap (startIn (some l)) p;
         }
 
     pub reaching-end : (left : ℕ) → Reaching path i at left → left ≡ 0 → Reached path i r
-    reaching-end left g z = record {
-      is = λ s f. first-by at s (stepOf path r) (sym (d .is)) (rw z at (g .on s f));
-      name-inside = λ start n next e. let h = subst (NameInside path at) e (d .name-inside) in h .1;
-    }
+    reaching-end left g z l e h =
+        let i-is : i - left ≡ i = omega (arith, z) in
+        let p : at ≡ startIn (some l) i = g .on l e h ∙ ap (startIn (some l)) i-is in
+        record { is = rw e (read-is l e i h p); name-inside = rw e (subst (λ k. NameInside path k r) p (d .name-inside)) }
 
 -- ---- the count: the path has as many segments, and none where one of them is bad
 
-nth-inside : (l : List Defined) (i : ℕ) → i < length l → (P : Option Defined → Type 0) → ((s : Defined) → nth l i ≡ some s → P (some s)) → P (nth l i)
-unfolding nth
-nth-inside [] i h P f = absurd (omega arith)
-nth-inside (s ∷ l) zero h P f = f s refl
-nth-inside (s ∷ l) (suc i) h P f = nth-inside l i (omega arith) P f
-
-nth-outside : (l : List Defined) (i : ℕ) → length l ≤ i → none ≡ nth l i
+nth-outside : (l : List Step) (i : ℕ) → length l ≤ i → cut ≡ nth l i
 unfolding nth
 nth-outside [] i h = refl
 nth-outside (s ∷ l) zero h = absurd (omega arith)
 nth-outside (s ∷ l) (suc i) h = nth-outside l i (omega arith)
 
-module _ (i : ℕ) where
-  inside-by : (o : Option Defined) (n : ℕ) (m : Option (List Defined)) → Segments n ≡ checkBy m → i < n → ((s : Defined) → nthIn m i ≡ some s → o ≡ some s) → o ≡ nthIn m i
-  inside-by o n none e h f = clash (cc e)
-  inside-by o n (some l) e h f = let k : n ≡ length l = cc e in nth-inside l i (omega arith) (λ p. o ≡ p) f
+module _ (i n : ℕ) where
+  inside-by : (m : Option (List Step)) → Segments n ≡ checkBy (onlySegments m) → i < n → (P : Type 0) → ((l : List Step) → m ≡ some l → i < length l → P) → P
+  inside-by none e h P f = clash (cc e)
+  inside-by (some l) e h P f = let k : n ≡ length (map segmentOf l) = cc e in f l refl (omega (arith, h, k, length-map l segmentOf))
 
-  outside-by : (n : ℕ) (m : Option (List Defined)) → Segments n ≡ checkBy m → n ≤ i → none ≡ nthIn m i
-  outside-by n none e h = refl
-  outside-by n (some l) e h = let k : n ≡ length l = cc e in nth-outside l i (omega arith)
+  outside-by : (m : Option (List Step)) → Segments n ≡ checkBy (onlySegments m) → n ≤ i → cut ≡ nthIn m i
+  outside-by none e h = refl
+  outside-by (some l) e h = let k : n ≡ length (map segmentOf l) = cc e in nth-outside l i (omega (arith, h, k, length-map l segmentOf))
 
-  bad-by : (m : Option (List Defined)) → Bad ≡ checkBy m → none ≡ nthIn m i
-  bad-by none e = refl
-  bad-by (some l) e = clash (cc e)
+bad-by : (i : ℕ) (m : Option (List Step)) → Bad ≡ checkBy (onlySegments m) → cut ≡ nthIn m i
+bad-by i none e = refl
+bad-by i (some l) e = clash (cc e)
 
 module _ (path : List ℕ) (i : ℕ) where
-  nothing-there : none ≡ nthIn (segments path) i → Nth path i Invalid
-  nothing-there e = record { is = e; name-inside = λ start n next g. clash (cc g) }
+  nothing-there : cut ≡ nthIn (stepsOf path) i → Nth path i Invalid
+  nothing-there e = record { is = e; name-inside = tt }
 
   pub nth-reached : (n : ℕ) (r : Segment) → Segments n ≡ checkOf path → i < n → Reached path i r → Nth path i r
-  unfolding checkOf
-  nth-reached n r e h g = record { is = inside-by i (segmentIn (stepOf path r)) n (segments path) e h (g .is); name-inside = g .name-inside }
+  unfolding checkOf segmentsFrom
+  nth-reached n r e h g = inside-by i n (stepsOf path) e h (Nth path i r) g
 
   pub nth-behind : (n : ℕ) → Segments n ≡ checkOf path → n ≤ i → Nth path i Invalid
-  unfolding checkOf
-  nth-behind n e h = nothing-there (outside-by i n (segments path) e h)
+  unfolding checkOf segmentsFrom
+  nth-behind n e h = nothing-there (outside-by i n (stepsOf path) e h)
 
   pub nth-bad : Bad ≡ checkOf path → Nth path i Invalid
-  unfolding checkOf
-  nth-bad e = nothing-there (bad-by i (segments path) e)
+  unfolding checkOf segmentsFrom
+  nth-bad e = nothing-there (bad-by i (stepsOf path) e)

@@ -2,35 +2,37 @@
 use mathlib.Core.Path.{_≡_}
 use mathlib.Core.List.{List, [], _∷_}
 use mathlib.Core.Option.{Option, none, some}
-use Prim.Native.Nat.{ℕ, zero, suc, _+_, _≤_}
+use Prim.Native.Nat.{ℕ, zero, suc, _<_}
 use lib.ListN.{length}
-use Rattle.definition.specs.Segment.{Segment as Defined, Step, step, cut, segments}
-use Rattle.path.specs.Paths.{stepOf}
+use Rattle.laws.specs.Items.{items}
+use Rattle.definition.specs.Segment.{Step, cut, segmentAt, nextOf}
+use Rattle.path.specs.Paths.{stepOf, NameInside}
 use Rattle.path.specs.declared.Segment.{Segment}
-use Rattle.path.specs.declared.Segment.the-variants.{Symbol}
 
--- the segment of a step; none where it is cut short
-abbrev pub segmentIn : Step → Option Defined
-segmentIn (step s next) = some s
-segmentIn cut = none
+-- a path's segments, each with the position behind it; none where the path does not decode
+abbrev pub stepsOf : (path : List ℕ) → Option (List Step)
+stepsOf path = items (segmentAt path) nextOf (length path) (length path) 0
 
--- none behind the list's end
-unfoldable pub nth : List Defined → ℕ → Option Defined
-nth [] i = none
-nth (s ∷ l) zero = some s
+-- the step of a number; cut behind the last one
+unfoldable pub nth : List Step → ℕ → Step
+nth [] i = cut
+nth (s ∷ l) zero = s
 nth (s ∷ l) (suc i) = nth l i
 
--- of a path's segments; none where the path does not decode
-abbrev pub nthIn : Option (List Defined) → ℕ → Option Defined
-nthIn none i = none
+abbrev pub nthIn : Option (List Step) → ℕ → Step
+nthIn none i = cut
 nthIn (some l) i = nth l i
 
--- the answer r is the path's i-th segment, and a symbol's name stands in the path
+-- where the i-th segment starts: the first at 0, each other where the one before it ends
+abbrev pub startIn : Option (List Step) → ℕ → ℕ
+startIn steps zero = 0
+startIn steps (suc i) = nextOf (nthIn steps i)
+
+-- the answer r is the path's i-th segment with the position behind it; a symbol's name starts two bytes behind the segment's start and stands in the path
 pub record Nth (path : List ℕ) (i : ℕ) (r : Segment) : Type 0 where
-  pub is : segmentIn (stepOf path r) ≡ nthIn (segments path) i
-  pub name-inside : (start n next : ℕ) → r ≡ Symbol start n next → start + n ≤ length path
+  pub is : stepOf path r ≡ nthIn (stepsOf path) i
+  pub name-inside : NameInside path (startIn (stepsOf path) i) r
 
 -- the same where the path has such a segment
-pub record Reached (path : List ℕ) (i : ℕ) (r : Segment) : Type 0 where
-  pub is : (s : Defined) → nthIn (segments path) i ≡ some s → segmentIn (stepOf path r) ≡ some s
-  pub name-inside : (start n next : ℕ) → r ≡ Symbol start n next → start + n ≤ length path
+abbrev pub Reached : (path : List ℕ) (i : ℕ) (r : Segment) → Type 0
+Reached path i r = (l : List Step) → stepsOf path ≡ some l → i < length l → Nth path i r
