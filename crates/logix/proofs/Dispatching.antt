@@ -29,10 +29,10 @@ use Rattle.logix.specs.Answered.{EnvelopeTest}
 use Rattle.path.specs.declared.Object.{Object}
 use Rattle.path.specs.declared.Object.the-variants.{Of, Nothing}
 use Rattle.logix.proofs.Offsets.{HasParts}
-use Rattle.logix.specs.Placed.{Placed, PartAnswers}
+use Rattle.logix.specs.Placed.{Copied, PartAnswers}
 use Rattle.logix.specs.declared.parts.PartReply.{PartReply}
 use Rattle.laws.proofs.Parts.{to-end}
-use Rattle.logix.proofs.Placing.{in-the-tail, by-scratch}
+use Rattle.logix.proofs.Placing.{copied-placed, in-the-tail, by-scratch}
 use Rattle.logix.proofs.Going.{partsIn, parts-in-long}
 
 -- ---- the test for an envelope
@@ -136,20 +136,23 @@ module _ (t : Tables) (f : Flags) (memory p : List ℕ) (budget service : ℕ) (
     pub part-fits : length new ≡ length scratch → n ≤ length new
     part-fits e = omega (arith, a .length-is, whole .fits)
 
-    pub part-by-scratch : (limit used : ℕ) (old : List ℕ) (r : PartReply) (end : List ℕ) → Placed (take n new) limit used old r end
+    pub part-by-scratch : (limit used : ℕ) (old : List ℕ) (r : PartReply) (end : List ℕ) → room limit ≤ length old → Copied (take n new) limit used old r end
         → PartAnswers (partAnswer (partDispatch t f) memory p budget) budget limit used old r end mem
-    part-by-scratch limit used old r end w =
-        rw (← part-agrees) (by-scratch (answer t f memory p budget) budget limit used old n new mem (whole .fits) small scratch eight a r end w)
+    part-by-scratch limit used old r end k w =
+        rw (← part-agrees)
+        (by-scratch (answer t f memory p budget) budget limit used old n new mem (whole .fits) small scratch eight a r end
+        (copied-placed (take n new) limit used old r end k w))
 
 -- what a dispatch needs of the end of a buffer
 pub tail-room : (old : List ℕ) (budget limit used : ℕ) → 8 ≤ budget → budget ≤ limit - used → room limit ≤ length old → room budget ≤ length (take (length old - used) (drop used old))
 tail-room old budget limit used b l k = rw (to-end, length-drop) (omega arith)
 
 pub part-declined : (d : Dispatcher) (memory p : List ℕ) (budget service limit used : ℕ) (old : List ℕ) (r : PartReply) (new : List ℕ) → service ≡ getD p 0 0 → service ≡ 0x0A
-    → Placed (fail envelopeService notSupported) limit used old r new → PartAnswers (partAnswer d memory p budget) budget limit used old r new memory
+    → room limit ≤ length old → Copied (fail envelopeService notSupported) limit used old r new → PartAnswers (partAnswer d memory p budget) budget limit used old r new memory
 unfolding partAnswer reply
-part-declined d memory p budget service limit used old r new e h w =
-    rw (eq-eqb (getD p 0 0) 0x0A (sym e ∙ h)) (record { placed = w; least = omega arith; memory-is = refl })
+part-declined d memory p budget service limit used old r new e h k w =
+    rw (eq-eqb (getD p 0 0) 0x0A (sym e ∙ h))
+    (record { placed = copied-placed (fail envelopeService notSupported) limit used old r new k w; least = omega arith; memory-is = refl })
 
 -- ---- an envelope that is refused, and one whose parts are answered
 

@@ -20,10 +20,11 @@ use Rattle.definition.specs.Bytes.{le16, numbers, part}
 use Rattle.definition.specs.Reply.{Answer, answered, Status, general, extended, reply, room, fail, tooLarge}
 use Rattle.definition.specs.Envelope.{Dispatcher, partAnswer, partsFrom, runParts, andReply, joinAll, offsetsFrom, envelopeReply, closeEnvelope, envelopeService}
 use Rattle.services.specs.Answers.{Answers}
-use Rattle.logix.specs.Placed.{PartOf, PartAnswers, Marked, outcomeOf, Closed}
+use Rattle.logix.specs.Placed.{PartOf, PartAnswers, marked, outcomeOf, Closed}
 use Rattle.logix.specs.declared.parts.PartReply.{PartReply}
 use Rattle.listing.proofs.Lists.{numbers-long}
 use Rattle.logix.proofs.Offsets.{parts-long}
+use Rattle.logix.proofs.Placing.{marked-put, marked-rest}
 use Rattle.laws.proofs.Parts.{part-stays, part-grows, laid-drop}
 use Rattle.logix.proofs.Turns.{join-one, offsets-one, offsets-long, every-one, before, before-one}
 
@@ -87,7 +88,7 @@ module _ (d : Dispatcher) (mem₀ body : List ℕ) (limit : ℕ) (old : List ℕ
         let left : length (drop (suc i) ps) ≡ count - i - 1 = rw (length-drop, parts-in-long) (omega arith) in
         rw (drop-cons ps i [] l, left, ← (is .is), ← budget)
 
-    module _ (r : PartReply) (mid new mem′ : List ℕ) (m : Marked limit used i buf mid) (q : PartAnswers one b limit used mid r new mem′)
+    module _ (r : PartReply) (mid new mem′ : List ℕ) (m : mid ≡ marked limit used i buf) (q : PartAnswers one b limit used mid r new mem′)
         (room-there : room limit ≤ length old) (same : length mid ≡ length buf) (same′ : length new ≡ length mid) (wide′ : length mem′ ≡ length mem) where
       abbrev after : List (List ℕ)
       after = g .done ++ (one .reply ∷ [])
@@ -101,7 +102,7 @@ module _ (d : Dispatcher) (mem₀ body : List ℕ) (limit : ℕ) (old : List ℕ
       offsets-on : sum ≤ limit → part new 6 (2 * (i + 1)) ≡ offsetsFrom (2 + 2 * count) after
       offsets-on k =
           let w = le16 (used - 4) in
-          let put-there : mid ≡ put buf (6 + 2 * i) w = m .stands (omega arith) in
+          let put-there : mid ≡ put buf (6 + 2 * i) w = marked-put limit used i buf mid m (omega arith) in
           let fits : 6 + 2 * i + 2 ≤ length buf = omega (arith, g .size, g .long) in
           let written : take (6 + 2 * i + 2) mid ≡ take (6 + 2 * i) buf ++ w = rw put-there (take-put buf (6 + 2 * i) w fits) in
           part-stays mid new (one .reply) used sum (omega (arith, g .long)) (q .placed .stands k) refl 6 (2 * (i + 1)) (omega (arith, g .size))
@@ -113,7 +114,7 @@ module _ (d : Dispatcher) (mem₀ body : List ℕ) (limit : ℕ) (old : List ℕ
       replies-on k =
           let w = le16 (used - 4) in
           let head = 6 + 2 * count in
-          let put-there : mid ≡ put buf (6 + 2 * i) w = m .stands (omega arith) in
+          let put-there : mid ≡ put buf (6 + 2 * i) w = marked-put limit used i buf mid m (omega arith) in
           let fits : 6 + 2 * i + 2 ≤ length buf = omega (arith, g .size, g .long) in
           let behind : drop head mid ≡ drop head buf = rw put-there (drop-put-past buf (6 + 2 * i) w fits head (omega arith)) in
           part-grows mid new (one .reply) used sum (omega (arith, g .long)) (q .placed .stands k) refl head (used - head) (sum - head) (omega (arith, g .size)) (omega (arith, g .size))
@@ -130,7 +131,7 @@ module _ (d : Dispatcher) (mem₀ body : List ℕ) (limit : ℕ) (old : List ℕ
         all-fine = rw (every-one, ← (g .all-fine), ← (q .placed .fine-is));
         offsets = offsets-on;
         replies = replies-on;
-        rest = q .placed .rest ∙ m .rest ∙ g .rest;
+        rest = q .placed .rest ∙ marked-rest limit used i buf mid m (omega (arith, g .size)) (omega (arith, g .long)) ∙ g .rest;
         bound = omega (arith, q .least, g .bound);
         turn = omega arith;
         small = g .small;

@@ -5,10 +5,12 @@ use mathlib.Core.Bool.{Bool, true, false}
 use mathlib.Core.List.{List, [], _++_, append-nil}
 use Prim.Native.Nat.{ℕ, _+_, _-_, _*_, _%_, _≤_, _<_}
 use native.Mathlib.Omega.{arith}
-use lib.Dec.{eqb}
+use lib.Dec.{leb, eqb}
 use lib.ListN.{length, getD, take, drop, length-drop, drop-of-length-le, List·getD-append}
 use lib.Seq.{take-all, length-take-le, take-append-add, drop-append-add, drop-drop, getD-take, getD-append-add}
+use borrow.Author.Tests.{le-leb, lt-leb, leb-true}
 use Rattle.laws.specs.Put.{put, zeroed, laid}
+use Rattle.laws.proofs.Chain.{by-test}
 use Rattle.laws.proofs.Put.{take-put, drop-put-past, take-laid, drop-laid}
 use Rattle.definition.specs.Bytes.{le16}
 use Rattle.definition.specs.Reply.{Answer, Status, reply, room, fail, tooLarge, notSupported}
@@ -17,7 +19,7 @@ use Rattle.cip.specs.Statuses.{hasWord}
 use Rattle.cip.specs.Writes.{Written, Laid}
 use Rattle.listing.proofs.Laws.{header-then}
 use Rattle.services.specs.Answers.{Answers}
-use Rattle.logix.specs.Placed.{Placed, PartAnswers, Marked, outcomeOf, Closed}
+use Rattle.logix.specs.Placed.{Copied, Placed, PartAnswers, marked, outcomeOf, Closed}
 use Rattle.logix.specs.declared.parts.PartReply.{PartReply}
 
 -- ---- a reply that is copied where it fits
@@ -32,31 +34,57 @@ module _ (src : List ℕ) (n limit used : ℕ) (old : List ℕ) (some-bytes : 3 
   cut-fine : eqb (getD src 2 0) 0 ≡ eqb (getD (take n src) 2 0) 0
   cut-fine = rw (getD-take n src 2 0 (omega arith))
 
-  pub not-placed : limit < used + n → Placed (take n src) limit used old what old
-  not-placed h = record { length-is = sym cut-long; fine-is = cut-fine; stands = λ k. absurd (omega (arith, cut-long)); rest = refl }
+  pub not-copied : limit < used + n → Copied (take n src) limit used old what old
+  not-copied h = record {
+    length-is = sym cut-long;
+    fine-is = cut-fine;
+    buffer-is = rw (lt-leb (used + length (take n src)) limit (omega (arith, cut-long)));
+  }
 
-  pub placed : (new : List ℕ) → new ≡ put old used (take n src) → used + n ≤ limit → room limit ≤ length old
-      → Placed (take n src) limit used old what new
-  placed new e h k =
-      let fits : used + length (take n src) ≤ length old = omega (arith, cut-long) in
-      record {
-        length-is = sym cut-long;
-        fine-is = cut-fine;
-        stands = λ _. rw e (take-put old used (take n src) fits);
-        rest = rw e (drop-put-past old used (take n src) fits (room limit) (omega (arith, cut-long)));
-      }
+  pub copied : (new : List ℕ) → new ≡ put old used (take n src) → used + n ≤ limit → Copied (take n src) limit used old what new
+  copied new e h = record {
+    length-is = sym cut-long;
+    fine-is = cut-fine;
+    buffer-is = rw (le-leb (used + length (take n src)) limit (omega (arith, cut-long))) e;
+  }
+
+-- what is so copied stands where it fits, and nothing behind the room changes
+module _ (bytes : List ℕ) (limit used : ℕ) (old : List ℕ) (r : PartReply) (new : List ℕ) (there : room limit ≤ length old) (c : Copied bytes limit used old r new) where
+  copied-put : used + length bytes ≤ limit → new ≡ put old used bytes
+  copied-put h = c .buffer-is ∙ rw (le-leb (used + length bytes) limit h)
+
+  copied-rest : drop (room limit) new ≡ drop (room limit) old
+  copied-rest =
+      by-test (leb (used + length bytes) limit)
+      (λ t. let h = leb-true (used + length bytes) limit t in rw (copied-put h) (drop-put-past old used bytes (omega (arith, h)) (room limit) (omega (arith, h))))
+      (λ t. ap (drop (room limit)) (c .buffer-is ∙ rw t))
+
+  pub copied-placed : Placed bytes limit used old r new
+  copied-placed = record {
+    length-is = c .length-is;
+    fine-is = c .fine-is;
+    stands = λ h. rw (copied-put h) (take-put old used bytes (omega (arith, h)));
+    rest = copied-rest;
+  }
 
 -- ---- an envelope's offsets and its end
 
-pub not-marked : (limit used i : ℕ) (old : List ℕ) → limit < used → Marked limit used i old old
-not-marked limit used i old h = record { stands = λ k. absurd (omega arith); rest = refl }
+module _ (limit used i : ℕ) (old : List ℕ) where
+  pub not-marked : limit < used → old ≡ marked limit used i old
+  not-marked h = rw (lt-leb used limit h)
 
-pub marked : (limit used i w : ℕ) (old new : List ℕ) → w ≡ (used - 4) % 65536 → new ≡ put old (6 + 2 * i) (le16 w) → used ≤ limit → limit ≤ 65535
-    → 6 + 2 * i + 2 ≤ used → room limit ≤ length old → Marked limit used i old new
-marked limit used i w old new e p h s k l =
-    let q : w ≡ used - 4 = omega arith in
-    let fits : 6 + 2 * i + length (le16 w) ≤ length old = omega arith in
-    record { stands = λ _. rw (← q) p; rest = rw p (drop-put-past old (6 + 2 * i) (le16 w) fits (room limit) (omega arith)) }
+  module _ (new : List ℕ) where
+    pub marked-by : (w : ℕ) → w ≡ (used - 4) % 65536 → new ≡ put old (6 + 2 * i) (le16 w) → used ≤ limit → limit ≤ 65535 → new ≡ marked limit used i old
+    marked-by w e p h s = let q : w ≡ used - 4 = omega arith in rw (le-leb used limit h, ← q) p
+
+    pub marked-put : new ≡ marked limit used i old → used ≤ limit → new ≡ put old (6 + 2 * i) (le16 (used - 4))
+    marked-put m h = m ∙ rw (le-leb used limit h)
+
+    pub marked-rest : new ≡ marked limit used i old → 6 + 2 * i + 2 ≤ used → room limit ≤ length old → drop (room limit) new ≡ drop (room limit) old
+    marked-rest m k l =
+        by-test (leb used limit)
+        (λ t. let h = leb-true used limit t in rw (marked-put m h) (drop-put-past old (6 + 2 * i) (le16 (used - 4)) (omega (arith, h)) (room limit) (omega (arith, h))))
+        (λ t. ap (drop (room limit)) (m ∙ rw t))
 
 pub closed-late : (limit count used : ℕ) (fine : Bool) (old : List ℕ) (r : ℕ) (new : List ℕ) → limit < used → Laid limit (fail envelopeService tooLarge) old r new
     → Closed limit count used fine old r new
@@ -138,8 +166,8 @@ module _ (scratch new : List ℕ) (n : ℕ) (l : Laid 0 (fail envelopeService no
   unfolding reply
   refused-long = l .length-is
 
-  pub refused-placed : (limit used : ℕ) (old : List ℕ) (r : PartReply) (end : List ℕ) → Placed (take n new) limit used old r end
-      → Placed (fail envelopeService notSupported) limit used old r end
-  refused-placed limit used old r end w =
+  pub refused-copied : (limit used : ℕ) (old : List ℕ) (r : PartReply) (end : List ℕ) → Copied (take n new) limit used old r end
+      → Copied (fail envelopeService notSupported) limit used old r end
+  refused-copied limit used old r end w =
       let t : take n new ≡ fail envelopeService notSupported = rw (l .buffer-is, l .length-is) (take-laid (room 0) scratch (fail envelopeService notSupported)) in
       rw t at w

@@ -3,7 +3,7 @@ use mathlib.Core.Path.{_≡_}
 use mathlib.Core.Bool.{Bool}
 use mathlib.Core.List.{List, [], _++_}
 use Prim.Native.Nat.{ℕ, _+_, _-_, _*_, _≤_, _<_}
-use lib.Dec.{eqb}
+use lib.Dec.{leb, eqb}
 use lib.ListN.{length, getD, take, drop}
 use Rattle.laws.specs.Pick.{pick}
 use Rattle.laws.specs.Put.{put, zeroed}
@@ -22,6 +22,12 @@ pub record PartOf (body : List ℕ) (count i : ℕ) (r : List ℕ) : Type 0 wher
   pub is : r ≡ getD (partsFrom body (numbers count (drop 2 body))) i []
   pub shorter : length r < length body
 
+-- a part's reply stands at `used` where it fits the limit, else nothing is written
+pub record Copied (bytes : List ℕ) (limit used : ℕ) (old : List ℕ) (r : PartReply) (new : List ℕ) : Type 0 where
+  pub length-is : r .len ≡ length bytes
+  pub fine-is : r .fine ≡ eqb (getD bytes 2 0) 0
+  pub buffer-is : new ≡ pick (leb (used + length bytes) limit) (put old used bytes) old
+
 -- a part's reply stands at `used`, where it fits the limit, and nothing behind the room changes
 pub record Placed (bytes : List ℕ) (limit used : ℕ) (old : List ℕ) (r : PartReply) (new : List ℕ) : Type 0 where
   pub length-is : r .len ≡ length bytes
@@ -35,10 +41,9 @@ pub record PartAnswers (a : Answer) (budget limit used : ℕ) (old : List ℕ) (
   pub least : length (a .reply) ≤ room budget
   pub memory-is : memory ≡ a .memory
 
--- the offset of the part that starts at `used`, counted from the count's first byte, where the limit is not passed yet
-pub record Marked (limit used i : ℕ) (old new : List ℕ) : Type 0 where
-  pub stands : used ≤ limit → new ≡ put old (6 + 2 * i) (le16 (used - 4))
-  pub rest : drop (room limit) new ≡ drop (room limit) old
+-- the offset of the part that starts at `used`, counted from the count's first byte, where the limit is not passed yet; else nothing is written
+abbrev pub marked : (limit used i : ℕ) (old : List ℕ) → List ℕ
+marked limit used i old = pick (leb used limit) (put old (6 + 2 * i) (le16 (used - 4))) old
 
 abbrev pub outcomeOf : Bool → Status
 outcomeOf fine = pick fine success partFailed

@@ -16,7 +16,7 @@ ghost use Rattle.definition.specs.Envelope.{ascending, partsOf, envelopeService
 ghost use Rattle.cip.specs.Statuses.{statusOf};
 ghost use Rattle.model.specs.Tables.{flagsOf};
 ghost use Rattle.logix.specs.Answered.{EnvelopeTest};
-ghost use Rattle.logix.specs.Placed.{markAt, PartOf, Placed, Marked, outcomeOf, Closed};
+ghost use Rattle.logix.specs.Placed.{markAt, PartOf, Copied, marked, outcomeOf, Closed};
 
 /// The service of an envelope.
 pub const ENVELOPE: u8 = 0x0A;
@@ -163,12 +163,12 @@ pub fn budget_of(limit: usize, used: usize, left: usize) -> usize
     rest - 4 * left
 }
 
-/// The offset of the part whose reply starts at `used`; past the limit there is no need of it.
+/// The offset of the part whose reply starts at `used`; past the limit there is no need of it, and nothing is written.
 pub fn put_offset(buf: &mut [u8], limit: usize, used: usize, i: usize)
     requires { ⌜ (limit ≤ 65535) × (room limit ≤ length (now buf)) × (6 + 2 * i + 2 ≤ used) ⌝ }
-    ensures { λ _. ⌜ Marked limit used i (now (buf .entry)) (now (buf .exit)) ⌝ }
+    ensures { λ _. ⌜ now (buf .exit) ≡ marked limit used i (now (buf .entry)) ⌝ }
 {
-    if limit < used {
+    if used > limit {
         return;
     }
     cip::put_u16(
@@ -178,10 +178,10 @@ pub fn put_offset(buf: &mut [u8], limit: usize, used: usize, i: usize)
     );
 }
 
-/// A part's reply, copied to `used` where it fits the limit.
+/// A part's reply, copied to `used` where it fits the limit; else nothing is written.
 pub fn place(buf: &mut [u8], limit: usize, used: usize, src: &[u8], n: usize) -> PartReply
     requires { ⌜ (3 ≤ n) × (n ≤ length (now src)) × (room limit ≤ length (now buf)) ⌝ }
-    ensures { λ r. ⌜ Placed (take n (now (src .entry))) limit used (now (buf .entry)) r (now (buf .exit)) ⌝ }
+    ensures { λ r. ⌜ Copied (take n (now (src .entry))) limit used (now (buf .entry)) r (now (buf .exit)) ⌝ }
 {
     let fine = src[2] == 0;
     if limit < used {
@@ -197,7 +197,7 @@ pub fn place(buf: &mut [u8], limit: usize, used: usize, src: &[u8], n: usize) ->
 /// The answer to a part that is itself an envelope.
 pub fn refuse_part(buf: &mut [u8], limit: usize, used: usize) -> PartReply
     requires { ⌜ room limit ≤ length (now buf) ⌝ }
-    ensures { λ r. ⌜ Placed (fail envelopeService notSupported) limit used (now (buf .entry)) r (now (buf .exit)) ⌝ }
+    ensures { λ r. ⌜ Copied (fail envelopeService notSupported) limit used (now (buf .entry)) r (now (buf .exit)) ⌝ }
 {
     let mut scratch = [0u8; 8];
     let n = cip::fail(&mut scratch, 0, ENVELOPE, Status::NotSupported);

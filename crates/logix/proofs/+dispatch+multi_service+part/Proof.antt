@@ -152,7 +152,11 @@ multi-service-returns-3 t c = envelope-runs _ _ _ _ _ _ _ _ _ _ _ (c .before .be
     (going-end _ _ _ _ _ _ _ _ _ _ _ (c .before .before .before .before .before .loop .inv) _ _ (le-antisymm (c .before .before .before .before .before .loop .inv .turn) (c .before .before .before .before .loop-test .left)) (c .before .before .close .ensures) (c .before .before .before .before .before .before .before .before .before .before .before .before .before .before .before .before .before .pre .1 .2))
 
 part-returns : (t : ℕ) → part-lts.Need-returns (part-calls t) (part-at t) part.Post
-part-returns t c = part-declined _ _ _ _ _ _ _ _ _ _ (c .before .before .before .before .before .first-of .ensures) (c .before .before .before .before .if1 .taken) (c .before .before .refuse-part .ensures)
+part-returns t c =
+    let back = c .before .before .before .before in let if1 = back .if1 in
+    let back = back .before in let first-of = back .first-of in
+    let pre = back .before .before .before .before .before .before .before .pre in
+    part-declined _ _ _ _ _ _ _ _ _ _ (first-of .ensures) (if1 .taken) (pre .1 .3) (c .before .before .refuse-part .ensures)
 
 part-dispatch-requires : (t : ℕ) → part-lts.Need-dispatch-requires (part-calls t) (part-at t) part.Post
 part-dispatch-requires t c κs = (search needs, (c .before .before .before .before .before .before .before .before .before .before .before .pre .1 .0, omega (arith, c .before .before .before .before .before .before .before .before .before .before .before .pre .1 .1, c .before .before .before .before .before .before .before .before .before .before .before .pre .1 .2), tail-room (c .before .before .before .before .before .before .before .before .before .before .before .args .buf .now) (c .before .before .before .before .before .before .before .before .before .before .before .args .budget) (c .before .before .before .before .before .before .before .before .before .before .before .args .limit) (c .before .before .before .before .before .before .before .before .before .before .before .args .used) (c .before .before .if2 .taken) (c .before .before .before .before .before .before .before .before .before .before .before .pre .1 .2) (c .before .before .before .before .before .before .before .before .before .before .before .pre .1 .3)))
@@ -167,7 +171,13 @@ part-place-requires : (t : ℕ) → part-lts.Need-place-requires (part-calls t) 
 part-place-requires t c κs = (part-some _ _ _ _ _ _ (c .before .before .before .before .before .before .before .before .before .before .first-of .ensures) (c .before .before .before .before .before .before .before .before .before .if1 .left) _ _ _ _ (c .before .before .before .before .before .before .before .before .if2 .left) refl (c .before .before .before .before .before .dispatch2 .ensures), part-fits _ _ _ _ _ _ (c .before .before .before .before .before .before .before .before .before .before .first-of .ensures) (c .before .before .before .before .before .before .before .before .before .if1 .left) _ _ _ _ (c .before .before .before .before .before .before .before .before .if2 .left) refl (c .before .before .before .before .before .dispatch2 .ensures) (c .before .before .before .before .before .dispatch2 .kept .1 .1 .1 .1 .1 .1 .1 .1 .1 .1 .1 .1 .0), c .before .before .before .before .before .before .before .before .before .before .before .before .before .before .before .before .before .pre .1 .3)
 
 part-returns-3 : (t : ℕ) → part-lts.Need-returns-3 (part-calls t) (part-at t) part.Post
-part-returns-3 t c = part-by-scratch _ _ _ _ _ _ (c .before .before .before .before .before .before .before .before .before .before .before .before .before .first-of .ensures) (c .before .before .before .before .before .before .before .before .before .before .before .before .if1 .left) _ _ _ _ (c .before .before .before .before .before .before .before .before .before .before .before .if2 .left) refl (c .before .before .before .before .before .before .before .before .dispatch2 .ensures) _ _ _ _ _ (c .before .before .place .ensures)
+part-returns-3 t c =
+    let back = c .before .before .before .before .before .before .before .before in let dispatch2 = back .dispatch2 in
+    let back = back .before .before .before in let if2 = back .if2 in
+    let back = back .before in let if1 = back .if1 in
+    let back = back .before in let first-of = back .first-of in
+    let pre = back .before .before .before .before .before .before .before .pre in
+    part-by-scratch _ _ _ _ _ _ (first-of .ensures) (if1 .left) _ _ _ _ (if2 .left) refl (dispatch2 .ensures) _ _ _ _ _ (pre .1 .3) (c .before .before .place .ensures)
 
 pub +dispatch+multi-service+part-spec : {M : Type 1} → statement M
 +dispatch+multi-service+part-spec =

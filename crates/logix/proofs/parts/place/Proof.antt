@@ -1,4 +1,6 @@
-use Rattle.logix.proofs.Placing.{placed, not-placed}
+-- `logix::parts::place` meets its contract: where the limit is passed, and where the reply's end passes it, the buffer is not touched, which is the definition's
+-- second answer; else `copy_into` writes the reply at `used`, which is the first. The cut of `src` has n bytes, and its third byte is that of `src`.
+use Rattle.logix.proofs.Placing.{copied, not-copied}
 use native.Mathlib.Omega.{arith}
 use mathlib.Core.Path.{sym}
 use lib.Seq.{length-take-le}
@@ -7,19 +9,30 @@ use Rattle.logix.proofs.parts.place.Statement.{statement}
 use Rattle.logix.proofs.parts.place.Tie as tie
 
 returns : tie.Need-returns
-returns c = not-placed _ _ _ _ _ (c .before .before .before .before .pre .0) (c .before .before .before .before .pre .1) (omega arith)
+returns c =
+    let pre = c .before .before .before .before .pre in
+    not-copied _ _ _ _ _ (pre .0) (pre .1) (omega arith)
 
 returns-2 : tie.Need-returns-2
-returns-2 c = not-placed _ _ _ _ _ (c .before .before .before .before .before .pre .0) (c .before .before .before .before .before .pre .1) (omega arith)
+returns-2 c =
+    let pre = c .before .before .before .before .before .pre in
+    not-copied _ _ _ _ _ (pre .0) (pre .1) (omega arith)
 
 slice-aggregate-copy-into : tie.Need-slice-aggregate-copy-into
-slice-aggregate-copy-into c = sym (length-take-le _ _ (c .before .before .before .before .before .before .before .pre .1))
+slice-aggregate-copy-into c =
+    let pre = c .before .before .before .before .before .before .before .pre in
+    sym (length-take-le _ _ (pre .1))
 
 copy-into-requires : tie.Need-copy-into-requires
-copy-into-requires c κs = omega (arith, length-take-le (c .before .before .before .before .before .before .before .args .n) (c .before .before .before .before .before .before .before .args .src .now) (c .before .before .before .before .before .before .before .pre .1))
+copy-into-requires c κs =
+    let args = c .before .before .before .before .before .before .before .args in
+    let pre = c .before .before .before .before .before .before .before .pre in
+    omega (arith, length-take-le (args .n) (args .src .now) (pre .1))
 
 returns-3 : tie.Need-returns-3
-returns-3 c = placed _ _ _ _ _ (c .before .before .before .before .before .before .before .before .before .before .pre .0) (c .before .before .before .before .before .before .before .before .before .before .pre .1) _ (c .before .before .copy-into .ensures) (omega arith) (c .before .before .before .before .before .before .before .before .before .before .pre .2)
+returns-3 c =
+    let pre = c .before .before .before .before .before .before .before .before .before .before .pre in
+    copied _ _ _ _ _ (pre .0) (pre .1) _ (c .before .before .copy-into .ensures) (omega arith)
 
 pub place-spec : {M : Type 1} → statement M
 place-spec =

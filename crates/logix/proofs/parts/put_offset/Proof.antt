@@ -1,4 +1,6 @@
-use Rattle.logix.proofs.Placing.{marked, not-marked}
+-- `logix::parts::put_offset` meets its contract: past the limit the buffer is not touched; else `put_u16` writes the offset, which is below 65536 since `used` is not past
+-- the limit.
+use Rattle.logix.proofs.Placing.{marked-by, not-marked}
 use borrow.Author.Needs.{needs}
 use Rattle.logix.proofs.parts.put_offset.Statement.{statement}
 use Rattle.logix.proofs.parts.put_offset.Tie as tie
@@ -7,7 +9,11 @@ returns : tie.Need-returns
 returns c = not-marked _ _ _ _ (c .if1 .taken)
 
 returns-2 : tie.Need-returns-2
-returns-2 c = marked _ _ _ _ _ _ (c .before .before .before .word-of .ensures) (c .before .before .put-u16 .ensures) (c .before .before .before .before .before .if1 .left) (c .before .before .before .before .before .before .before .pre .0) (c .before .before .before .before .before .before .before .pre .2) (c .before .before .before .before .before .before .before .pre .1)
+returns-2 c =
+    let back = c .before .before .before in let word-of = back .word-of in
+    let if1 = back .before .before .if1 in
+    let pre = back .before .before .before .before .pre in
+    marked-by _ _ _ _ _ _ (word-of .ensures) (c .before .before .put-u16 .ensures) (if1 .left) (pre .0)
 
 pub put-offset-spec : {M : Type 1} → statement M
 put-offset-spec =

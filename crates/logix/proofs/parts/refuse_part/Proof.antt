@@ -1,4 +1,5 @@
-use Rattle.logix.proofs.Placing.{refused-long, refused-placed}
+-- `logix::parts::refuse_part` meets its contract: the refusal that `fail` lays in the scratch is 4 bytes long, and `place` copies these.
+use Rattle.logix.proofs.Placing.{refused-long, refused-copied}
 use native.Mathlib.Omega.{arith}
 use borrow.Author.Needs.{needs}
 use Rattle.logix.proofs.parts.refuse_part.Statement.{statement}
@@ -8,7 +9,9 @@ place-requires : tie.Need-place-requires
 place-requires c κs = let n = refused-long _ _ _ (c .before .before .before .fail .ensures) in (omega (arith, n), omega (arith, n), search needs)
 
 returns : tie.Need-returns
-returns c = refused-placed _ _ _ (c .before .before .before .before .before .before .fail .ensures) _ _ _ _ _ (c .before .before .place .ensures)
+returns c =
+    let fail = c .before .before .before .before .before .before .fail in
+    refused-copied _ _ _ (fail .ensures) _ _ _ _ _ (c .before .before .place .ensures)
 
 pub refuse-part-spec : {M : Type 1} → statement M
 refuse-part-spec =
