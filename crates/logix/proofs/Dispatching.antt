@@ -148,7 +148,8 @@ pub tail-room : (old : List ℕ) (budget limit used : ℕ) → 8 ≤ budget → 
 tail-room old budget limit used b l k = rw (to-end, length-drop) (omega arith)
 
 pub part-declined : (d : Dispatcher) (memory p : List ℕ) (budget service limit used : ℕ) (old : List ℕ) (r : PartReply) (new : List ℕ) → service ≡ getD p 0 0 → service ≡ 0x0A
-    → room limit ≤ length old → Copied (fail envelopeService notSupported) limit used old r new → PartAnswers (partAnswer d memory p budget) budget limit used old r new memory
+    → room limit ≤ length old → Copied (fail envelopeService notSupported) limit used old r new
+    → PartAnswers (partAnswer d memory p budget) budget limit used old r new memory
 unfolding partAnswer reply
 part-declined d memory p budget service limit used old r new e h k w =
     rw (eq-eqb (getD p 0 0) 0x0A (sym e ∙ h))

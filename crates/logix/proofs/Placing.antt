@@ -49,14 +49,16 @@ module _ (src : List ℕ) (n limit used : ℕ) (old : List ℕ) (some-bytes : 3 
   }
 
 -- what is so copied stands where it fits, and nothing behind the room changes
-module _ (bytes : List ℕ) (limit used : ℕ) (old : List ℕ) (r : PartReply) (new : List ℕ) (there : room limit ≤ length old) (c : Copied bytes limit used old r new) where
+module _ (bytes : List ℕ) (limit used : ℕ) (old : List ℕ) (r : PartReply) (new : List ℕ) (there : room limit ≤ length old)
+    (c : Copied bytes limit used old r new) where
   copied-put : used + length bytes ≤ limit → new ≡ put old used bytes
   copied-put h = c .buffer-is ∙ rw (le-leb (used + length bytes) limit h)
 
   copied-rest : drop (room limit) new ≡ drop (room limit) old
   copied-rest =
       by-test (leb (used + length bytes) limit)
-      (λ t. let h = leb-true (used + length bytes) limit t in rw (copied-put h) (drop-put-past old used bytes (omega (arith, h)) (room limit) (omega (arith, h))))
+      (λ t. let h = leb-true (used + length bytes) limit t in
+      rw (copied-put h) (drop-put-past old used bytes (omega (arith, h)) (room limit) (omega (arith, h))))
       (λ t. ap (drop (room limit)) (c .buffer-is ∙ rw t))
 
   pub copied-placed : Placed bytes limit used old r new
@@ -83,7 +85,8 @@ module _ (limit used i : ℕ) (old : List ℕ) where
     pub marked-rest : new ≡ marked limit used i old → 6 + 2 * i + 2 ≤ used → room limit ≤ length old → drop (room limit) new ≡ drop (room limit) old
     marked-rest m k l =
         by-test (leb used limit)
-        (λ t. let h = leb-true used limit t in rw (marked-put m h) (drop-put-past old (6 + 2 * i) (le16 (used - 4)) (omega (arith, h)) (room limit) (omega (arith, h))))
+        (λ t. let h = leb-true used limit t in
+        rw (marked-put m h) (drop-put-past old (6 + 2 * i) (le16 (used - 4)) (omega (arith, h)) (room limit) (omega (arith, h))))
         (λ t. ap (drop (room limit)) (m ∙ rw t))
 
 pub closed-late : (limit count used : ℕ) (fine : Bool) (old : List ℕ) (r : ℕ) (new : List ℕ) → limit < used → Laid limit (fail envelopeService tooLarge) old r new

@@ -177,7 +177,8 @@ part-returns-3 t c =
     let back = back .before in let if1 = back .if1 in
     let back = back .before in let first-of = back .first-of in
     let pre = back .before .before .before .before .before .before .before .pre in
-    part-by-scratch _ _ _ _ _ _ (first-of .ensures) (if1 .left) _ _ _ _ (if2 .left) refl (dispatch2 .ensures) _ _ _ _ _ (pre .1 .3) (c .before .before .place .ensures)
+    part-by-scratch _ _ _ _ _ _ (first-of .ensures) (if1 .left) _ _ _ _ (if2 .left) refl (dispatch2 .ensures) _ _ _ _ _
+    (pre .1 .3) (c .before .before .place .ensures)
 
 pub +dispatch+multi-service+part-spec : {M : Type 1} → statement M
 +dispatch+multi-service+part-spec =

@@ -1,5 +1,5 @@
--- `logix::parts::place` meets its contract: where the limit is passed, and where the reply's end passes it, the buffer is not touched, which is the definition's
--- second answer; else `copy_into` writes the reply at `used`, which is the first. The cut of `src` has n bytes, and its third byte is that of `src`.
+-- `logix::parts::place` meets its contract: where the limit is passed, and where the reply's end passes it, the buffer is not touched, which is the second
+-- answer of `Copied`; else `copy_into` writes the reply at `used`, which is the first. The cut of `src` has n bytes, and its third byte is that of `src`.
 use Rattle.logix.proofs.Placing.{copied, not-copied}
 use native.Mathlib.Omega.{arith}
 use mathlib.Core.Path.{sym}

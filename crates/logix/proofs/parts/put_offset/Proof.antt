@@ -1,19 +1,20 @@
--- `logix::parts::put_offset` meets its contract: past the limit the buffer is not touched; else `put_u16` writes the offset, which is below 65536 since `used` is not past
--- the limit.
+-- `logix::parts::put_offset` meets its contract: past the limit the buffer is not touched; else `put_u16` writes the offset, which is below 65536 since `used`
+-- is not past the limit.
 use Rattle.logix.proofs.Placing.{marked-by, not-marked}
+use native.Mathlib.Omega.{arith}
 use borrow.Author.Needs.{needs}
 use Rattle.logix.proofs.parts.put_offset.Statement.{statement}
 use Rattle.logix.proofs.parts.put_offset.Tie as tie
 
 returns : tie.Need-returns
-returns c = not-marked _ _ _ _ (c .if1 .taken)
+returns c =
+    let args = c .before .before .args in
+    not-marked (args .limit) (args .used) (args .i) _ (omega arith)
 
 returns-2 : tie.Need-returns-2
 returns-2 c =
-    let back = c .before .before .before in let word-of = back .word-of in
-    let if1 = back .before .before .if1 in
-    let pre = back .before .before .before .before .pre in
-    marked-by _ _ _ _ _ _ (word-of .ensures) (c .before .before .put-u16 .ensures) (if1 .left) (pre .0)
+    let word-of = c .before .before .before .word-of in
+    marked-by _ _ _ _ _ _ (word-of .ensures) (c .before .before .put-u16 .ensures) (omega arith) (omega arith)
 
 pub put-offset-spec : {M : Type 1} → statement M
 put-offset-spec =
