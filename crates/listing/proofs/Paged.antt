@@ -20,7 +20,7 @@ use Rattle.model.specs.Tables.{tablesOf}
 use Rattle.model.specs.declared.least.Next.{Next}
 use Rattle.model.specs.declared.least.Next.the-variants.{Tag, Other, Nothing}
 use Rattle.model.proofs.Due.{NextDue, none-due, tag-due, other-due, next-due}
-use Rattle.listing.specs.Entries.{made, TagMade, OtherMade, Entered, put-in, left-out, Stepped, more, full, done, SomeValid}
+use Rattle.listing.specs.Entries.{made, Listable, TagMade, OtherMade, Entered, put-in, left-out, Stepped, more, full, done, SomeValid}
 use Rattle.listing.specs.declared.entries.Symbol.{Symbol}
 use Rattle.listing.specs.declared.pages.Step.{Step}
 use Rattle.listing.specs.declared.pages.Step.the-variants.{Done}
@@ -76,10 +76,8 @@ module _ (structures tags others : List Row) (names tagNames : List ℕ) (scope 
         → name ≡ tagName tagNames (getD tags i []) → TagMade structures (getD tags i []) s
         → Entered (le32 (s .id) ++ attributesOf (made name s) attributes) limit used id old r new → Stepped set scope attributes limit used bound old r new
     tag-step attributes i id limit used name s old new r q n m x =
-        let d = due-of attributes (Tag i id) q in
-        let h = tag-inside set scope bound attributes i id d in
-        tag-stepped set scope bound attributes limit used old name s i id r new d
-        (rw n (m members programs tags others names tagNames templates (access-small set memory v i h) (tag-elements set memory v i h .0))) x
+        tag-stepped set scope bound attributes limit used old name s i id r new (due-of attributes (Tag i id) q)
+        (rw n (m members programs tags others names tagNames templates)) x
 
     pub other-step : (attributes : List ℕ) (i id limit used : ℕ) (name : List ℕ) (s : Symbol) (old new : List ℕ) (r : Step) → found ≡ Other i id
         → name ≡ otherName names (getD others i []) → OtherMade (getD others i []) s
@@ -97,6 +95,13 @@ module _ (structures tags others : List Row) (names tagNames : List ℕ) (scope 
 
     pub other-there : (i id : ℕ) → found ≡ Other i id → i < length others
     other-there i id q = other-inside (set (w .members) (w .programs) (w .templates) (w .memory) (w .ok)) scope bound [] i id (due-of (w .members) (w .programs) (w .templates) (w .memory) (w .ok) [] (Other i id) q)
+
+    -- its row makes a symbol
+    pub tag-listable : (i id : ℕ) → found ≡ Tag i id → Listable (getD tags i [])
+    tag-listable i id q =
+        let t = set (w .members) (w .programs) (w .templates) (w .memory) (w .ok) in
+        let h = tag-there i id q in
+        (access-small t (w .memory) (w .ok) i h, tag-elements t (w .memory) (w .ok) i h .0)
 
     -- its name is short
     pub tag-name : (i id : ℕ) (name : List ℕ) → found ≡ Tag i id → name ≡ tagName tagNames (getD tags i []) → length name ≤ 4294967295

@@ -42,10 +42,14 @@ otherAttribute s a =
     (pick (eqb a 8) (three (s .first) (s .second) (s .third))
     (s .access ∷ []))))))
 
--- a tag's row, its name aside, made a symbol; where the tables are valid the access fits a byte, and there are elements
+-- what a tag's row has to be for its symbol: where the tables are valid it is
+abbrev pub Listable : (r : Row) → Type 0
+Listable r = (tagAccess r ≤ 3) × (0 < tagElements r)
+
+-- a tag's row, its name aside, made a symbol
 abbrev pub TagMade : (structures : List Row) (r : Row) → Symbol → Type 0
 TagMade structures r s =
-    (members programs tags others : List Row) (names tagNames templates : List ℕ) → tagAccess r ≤ 3 → 0 < tagElements r
+    (members programs tags others : List Row) (names tagNames templates : List ℕ)
     → made (tagName tagNames r) s ≡ tagSymbol (tablesOf structures members programs tags others names tagNames templates) r
 
 abbrev pub OtherMade : (r : Row) → Symbol → Type 0

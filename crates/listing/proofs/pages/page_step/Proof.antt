@@ -1,7 +1,9 @@
+-- `listing::pages::page_step` meets its contract: in valid tables the next due symbol has its row, whose name is short and which makes a symbol (`Paged.antt`), and
+-- `entry_step` puts in, or leaves out, the entry of that symbol.
 use Rattle.definition.specs.Bytes.{numbers}
 use lib.ListN.{drop}
 use Rattle.listing.proofs.Hinted.{ids-apart}
-use Rattle.listing.proofs.Paged.{tag-there, other-there, tag-name, other-name, tag-step, other-step, none-step}
+use Rattle.listing.proofs.Paged.{tag-there, other-there, tag-listable, tag-name, other-name, tag-step, other-step, none-step}
 use borrow.Author.Needs.{needs}
 use Rattle.listing.proofs.pages.page_step.Statement.{statement}
 use Rattle.listing.proofs.pages.page_step.Tie as tie
@@ -26,6 +28,15 @@ mul-tag-symbol c = let h = tag-there (c .before .before .before .before .before 
 
 shared-slice-element-tag-symbol : tie.Need-shared-slice-element-tag-symbol
 shared-slice-element-tag-symbol c = tag-there (c .before .before .before .before .before .before .before .before .before .before .before .args .structures .now) (c .before .before .before .before .before .before .before .before .before .before .before .args .tags .now) (c .before .before .before .before .before .before .before .before .before .before .before .args .others .now) (c .before .before .before .before .before .before .before .before .before .before .before .args .names .now) (c .before .before .before .before .before .before .before .before .before .before .before .args .tag-names .now) (c .before .before .before .before .before .before .before .before .before .before .before .args .scope) (c .before .before .before .before .before .before .before .before .before .before .before .args .bound) _ (c .before .before .before .before .before .before .next-near .ensures) (c .before .before .before .before .before .before .before .before .before .before .before .pre .0) _ _ (c .before .before .before .before .i .given .1)
+
+tag-symbol-requires : tie.Need-tag-symbol-requires
+tag-symbol-requires c κs =
+    let back = c .before .before .before .before .before in let i = back .i in
+    let next-near = back .before .before .next-near in
+    let start = back .before .before .before .before .before .before .before in
+    tag-listable (start .args .structures .now) (start .args .tags .now) (start .args .others .now)
+    (start .args .names .now) (start .args .tag-names .now) (start .args .scope) (start .args .bound) _
+    (next-near .ensures) (start .pre .0) _ _ (i .given .1)
 
 add-entry-step : tie.Need-add-entry-step
 add-entry-step c = let h = tag-there (c .before .before .before .before .before .before .before .before .before .before .before .before .before .args .structures .now) (c .before .before .before .before .before .before .before .before .before .before .before .before .before .args .tags .now) (c .before .before .before .before .before .before .before .before .before .before .before .before .before .args .others .now) (c .before .before .before .before .before .before .before .before .before .before .before .before .before .args .names .now) (c .before .before .before .before .before .before .before .before .before .before .before .before .before .args .tag-names .now) (c .before .before .before .before .before .before .before .before .before .before .before .before .before .args .scope) (c .before .before .before .before .before .before .before .before .before .before .before .before .before .args .bound) _ (c .before .before .before .before .before .before .before .before .next-near .ensures) (c .before .before .before .before .before .before .before .before .before .before .before .before .before .pre .0) _ _ (c .before .before .before .before .before .before .i .given .1) in search needs
@@ -81,7 +92,7 @@ page-step-spec =
     (λ c κs. search needs)
     mul-tag-symbol
     shared-slice-element-tag-symbol
-    (λ c κs. search needs)
+    tag-symbol-requires
     add-entry-step
     entry-step-requires
     (λ c. search needs)

@@ -1,3 +1,5 @@
+-- `listing::symbols::tag_symbol` meets its contract: each field is what its callee ensures of the row, the access is below 256 as the row's is at most 3, and
+-- the row is long enough for its lengths as it has elements.
 use mathlib.Core.Path.{refl}
 use Rattle.listing.proofs.Made.{tag-made}
 use borrow.Author.Needs.{needs}
@@ -5,7 +7,15 @@ use Rattle.listing.proofs.symbols.tag_symbol.Statement.{statement}
 use Rattle.listing.proofs.symbols.tag_symbol.Tie as tie
 
 returns : tie.Need-returns
-returns c = λ m p t o n q z h k. tag-made (c .before .before .before .before .before .before .before .before .before .before .before .before .before .before .before .args .structures .now) m p t o n q z (c .before .before .before .before .before .before .before .before .before .before .before .before .before .before .before .args .row .now) _ _ _ refl (c .before .before .before .before .before .before .before .count-lengths .ensures .0) (c .before .before .before .before .before .before .symbol-type .ensures) (c .before .before .before .before .control-of .ensures) (c .before .before .element-size .ensures) (c .before .before .before .before .before .before .before .before .before .before .before .before .before .before .shapes .ensures) refl refl refl (c .low8 .ensures) h k
+returns c =
+    let back = c .before .before .before .before in let control-of = back .control-of in
+    let back = back .before .before in let symbol-type = back .symbol-type in
+    let count-lengths = back .before .count-lengths in
+    let back = back .before .before .before .before .before .before .before .before in let shapes = back .shapes in
+    let start = back .before in
+    λ m p t o n q z. tag-made (start .args .structures .now) m p t o n q z (start .args .row .now) _ _ _ refl
+    (count-lengths .ensures .0) (symbol-type .ensures) (control-of .ensures) (c .before .before .element-size .ensures)
+    (shapes .ensures) refl refl refl (c .low8 .ensures) (start .pre .0) (start .pre .1)
 
 pub tag-symbol-spec : {M : Type 1} → statement M
 tag-symbol-spec =
