@@ -1,5 +1,5 @@
--- `listing::pages::page_step` meets its contract: in valid tables the next due symbol has its row, whose name is short and which makes a symbol (`Paged.antt`), and
--- `entry_step` puts in, or leaves out, the entry of that symbol.
+-- `listing::pages::page_step` meets its contract: in valid tables the next due symbol has its row, whose name is short and which makes a symbol
+-- (`Paged.antt`), and `entry_step` puts in, or leaves out, the entry of that symbol.
 use Rattle.definition.specs.Bytes.{numbers}
 use lib.ListN.{drop}
 use Rattle.listing.proofs.Hinted.{ids-apart}
