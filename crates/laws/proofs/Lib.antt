@@ -5,6 +5,7 @@ pub mod First
 pub mod Fold
 pub mod Table
 pub mod Items
+pub mod Until
 pub mod Put
 pub mod Parts
 pub mod Sorted

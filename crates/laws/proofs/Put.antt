@@ -8,7 +8,7 @@ use native.Mathlib.Numerals.{add-one}
 use native.Mathlib.Nat.{add-assoc, add-zero, sub-self, zero-add}
 use lib.ListN.{length, take, drop, set, replicate, length-append, length-drop, length-replicate, take-append-drop, replicate-append-replicate}
 use lib.Seq.{take-at, drop-at, drop-append-add, drop-drop, length-take-le, set-split, append-snoc, take-all, take-take, take-nil, drop-cons, set-at, paste}
-use Rattle.laws.specs.Put.{put, laid, zeroed}
+use Rattle.laws.specs.Put.{put, laid, zeroed, KeptFrom}
 
 module _ (xs : List ℕ) (at : ℕ) (ys : List ℕ) (fits : at + length ys ≤ length xs) where
   put-head : length (take at xs ++ ys) ≡ at + length ys
@@ -67,6 +67,28 @@ unfolding laid
 drop-laid m old ys h =
     let e : length (ys ++ replicate (m - length ys) 0) ≡ m = simp (length-append, length-replicate) (omega arith) in
     ap (λ (l : List ℕ). drop m l) (sym (append-assoc ys (replicate (m - length ys) 0) (drop m old))) ∙ drop-at (ys ++ replicate (m - length ys) 0) (drop m old) m e
+
+pub length-laid : (m : ℕ) (old ys : List ℕ) → length ys ≤ m → m ≤ length old → length (laid m old ys) ≡ length old
+unfolding laid
+length-laid m old ys h k = simp (length-append, length-replicate, length-drop) (omega arith)
+
+-- ---- what is kept from a position on, after writes that end before it
+
+module _ (m : ℕ) (a b c : List ℕ) (k : KeptFrom m a b) where
+  pub kept-then : KeptFrom m b c → KeptFrom m a c
+  kept-then l = (l .0 ∙ k .0, l .1 ∙ k .1)
+
+  pub kept-put : (at : ℕ) (ys : List ℕ) → c ≡ put b at ys → at + length ys ≤ m → m ≤ length b → KeptFrom m a c
+  kept-put at ys e h l = rw e (drop-put-past b at ys (omega arith) m h ∙ k .0, length-put b at ys (omega arith) ∙ k .1)
+
+  pub kept-laid : (ys : List ℕ) → c ≡ laid m b ys → length ys ≤ m → m ≤ length b → KeptFrom m a c
+  kept-laid ys e h l = rw e (drop-laid m b ys h ∙ k .0, length-laid m b ys h l ∙ k .1)
+
+-- and so from each position behind it
+pub kept-less : (m n : ℕ) (a b : List ℕ) → m ≤ n → KeptFrom m a b → KeptFrom n a b
+kept-less m n a b h k =
+    let e : n ≡ m + (n - m) = omega arith in
+    (rw (e, ← drop-drop (n - m) m b, ← drop-drop (n - m) m a, k .0) refl, k .1)
 
 -- ---- the turns of the loops
 

@@ -5,5 +5,6 @@ pub mod First
 pub mod Zip
 pub mod Fold
 pub mod Items
+pub mod Until
 pub mod Put
 pub mod Sorted

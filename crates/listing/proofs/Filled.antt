@@ -144,7 +144,7 @@ module _ (t : Tables) (scope : ℕ) (attributes : List ℕ) (start service limit
     rest-is f es ys d e = sym e ∙ ap (λ (l : List Entry). filled service (eqb used 4) (end - used) (f .bytes) l) (sym d) ∙ f .goes-on
 
     added : {u b n : ℕ} → Fills used bound x → used + 4 ≤ u → end ≤ length old → Steps (More u b n) → Fills u b y
-    added {u} {b} {n} f k h (more e d a l p) = record {
+    added {u} {b} {n} f k h (more e q d a l p) = record {
       bytes = f .bytes ++ e .bytes;
       used-is = simp length-append (omega arith);
       buffer-is = put-then old x y 4 (f .bytes) used (e .bytes) (f .buffer-is) p (f .used-is) (omega arith);

@@ -13,6 +13,7 @@ use Rattle.laws.proofs.Tests.{both-true, among, both-none, every-at}
 use Rattle.definition.specs.Bytes.{le32}
 use Rattle.definition.specs.Tables.{Tables, Row, tagName, tagAccess, otherName}
 use Rattle.definition.specs.Valid.{valid, t1, t2, isName}
+use Rattle.definition.specs.Page.{idOf}
 use Rattle.definition.specs.Symbols.{Symbol as Defined, tagSymbol, otherSymbol, attributesOf, entryOf, due}
 use Rattle.definition.proofs.Facts.{tag-elements}
 use Rattle.model.specs.Least.{nextIn}
@@ -33,19 +34,21 @@ access-small t memory v i h =
 
 module _ (t : Tables) (scope bound : ℕ) (attributes : List ℕ) where
   tag-inside : (i id : ℕ) → NextDue scope attributes t bound (Tag i id) → i < length (t .tags)
-  tag-inside i id (tag-due h e) = h
+  tag-inside i id (tag-due h q e) = h
 
   other-inside : (i id : ℕ) → NextDue scope attributes t bound (Other i id) → i < length (t .others)
-  other-inside i id (other-due h e) = h
+  other-inside i id (other-due h q e) = h
 
   module _ (limit used : ℕ) (old : List ℕ) where
     abbrev Steps : Step → List ℕ → Type 0
     Steps r new = Stepped t scope attributes limit used bound old r new
 
-    stepped-by : (d : Defined) (id : ℕ) → due t scope attributes bound ≡ entryOf attributes d ∷ due t scope attributes (suc id) → (r : Step) (new : List ℕ)
+    stepped-by : (d : Defined) (id : ℕ) → idOf (entryOf attributes d) ≡ id
+        → due t scope attributes bound ≡ entryOf attributes d ∷ due t scope attributes (suc id) → (r : Step) (new : List ℕ)
         → Entered (entryOf attributes d .bytes) limit used id old r new → Steps r new
-    stepped-by d id e r new (put-in b u l p) = more (entryOf attributes d) (e ∙ ap (λ (k : ℕ). entryOf attributes d ∷ due t scope attributes k) (sym b)) u l p
-    stepped-by d id e r new (left-out h p) = full (entryOf attributes d) (due t scope attributes (suc id)) e h p
+    stepped-by d id q e r new (put-in b u l p) =
+        more (entryOf attributes d) (b ∙ ap suc (sym q)) (e ∙ ap (λ (k : ℕ). entryOf attributes d ∷ due t scope attributes k) (sym b)) u l p
+    stepped-by d id q e r new (left-out h p) = full (entryOf attributes d) (due t scope attributes (suc id)) e h p
 
     entered-by : (d : Defined) (name : List ℕ) (s : Symbol) (id : ℕ) (r : Step) (new : List ℕ) → made name s ≡ d
         → Entered (le32 (s .id) ++ attributesOf (made name s) attributes) limit used id old r new → Entered (entryOf attributes d .bytes) limit used id old r new
@@ -54,11 +57,11 @@ module _ (t : Tables) (scope bound : ℕ) (attributes : List ℕ) where
 
     tag-stepped : (name : List ℕ) (s : Symbol) (i id : ℕ) (r : Step) (new : List ℕ) → NextDue scope attributes t bound (Tag i id)
         → made name s ≡ tagSymbol t (getD (t .tags) i []) → Entered (le32 (s .id) ++ attributesOf (made name s) attributes) limit used id old r new → Steps r new
-    tag-stepped name s i id r new (tag-due h e) m x = stepped-by _ id e r new (entered-by _ name s id r new m x)
+    tag-stepped name s i id r new (tag-due h q e) m x = stepped-by _ id q e r new (entered-by _ name s id r new m x)
 
     other-stepped : (name : List ℕ) (s : Symbol) (i id : ℕ) (r : Step) (new : List ℕ) → NextDue scope attributes t bound (Other i id)
         → made name s ≡ otherSymbol t (getD (t .others) i []) → Entered (le32 (s .id) ++ attributesOf (made name s) attributes) limit used id old r new → Steps r new
-    other-stepped name s i id r new (other-due h e) m x = stepped-by _ id e r new (entered-by _ name s id r new m x)
+    other-stepped name s i id r new (other-due h q e) m x = stepped-by _ id q e r new (entered-by _ name s id r new m x)
 
     none-stepped : (new : List ℕ) → NextDue scope attributes t bound Nothing → new ≡ old → Steps Done new
     none-stepped new (none-due e) p = done e p

@@ -57,10 +57,10 @@ OtherMade r s =
     (structures members programs tags others : List Row) (names tagNames templates : List ℕ)
     → made (otherName names r) s ≡ otherSymbol (tablesOf structures members programs tags others names tagNames templates) r
 
--- what a step of a page leaves: one entry more, the next bound and any hint, or an entry that does not fit, or nothing due
+-- what a step of a page leaves: one entry more, its ID plus one as the next bound and any hint, or an entry that does not fit, or nothing due
 pub data Stepped (t : Tables) (scope : ℕ) (attributes : List ℕ) (limit used bound : ℕ) (old : List ℕ) : Step → List ℕ → Type 0 where
-  more : {u b h : ℕ} {new : List ℕ} (e : Entry) → due t scope attributes bound ≡ e ∷ due t scope attributes b → u ≡ used + length (e .bytes) → u ≤ limit
-      → new ≡ put old used (e .bytes) → Stepped t scope attributes limit used bound old (More u b h) new
+  more : {u b h : ℕ} {new : List ℕ} (e : Entry) → b ≡ suc (e .id) → due t scope attributes bound ≡ e ∷ due t scope attributes b
+      → u ≡ used + length (e .bytes) → u ≤ limit → new ≡ put old used (e .bytes) → Stepped t scope attributes limit used bound old (More u b h) new
   full : {new : List ℕ} (e : Entry) (es : List Entry) → due t scope attributes bound ≡ e ∷ es → limit < used + length (e .bytes)
       → new ≡ old → Stepped t scope attributes limit used bound old Full new
   done : {new : List ℕ} → due t scope attributes bound ≡ [] → new ≡ old → Stepped t scope attributes limit used bound old Done new

@@ -73,9 +73,9 @@ module _ (scope : ℕ) (attributes : List ℕ) where
   -- what the search says of the entries due from a bound on
   pub data NextDue (t : Tables) (bound : ℕ) : Next → Type 0 where
     none-due : due t scope attributes bound ≡ [] → NextDue t bound Nothing
-    tag-due : {i id : ℕ} → i < length (t .tags)
+    tag-due : {i id : ℕ} → i < length (t .tags) → idOf (entryOf attributes (tagSymbol t (getD (t .tags) i []))) ≡ id
         → due t scope attributes bound ≡ entryOf attributes (tagSymbol t (getD (t .tags) i [])) ∷ due t scope attributes (suc id) → NextDue t bound (Tag i id)
-    other-due : {i id : ℕ} → i < length (t .others)
+    other-due : {i id : ℕ} → i < length (t .others) → idOf (entryOf attributes (otherSymbol t (getD (t .others) i []))) ≡ id
         → due t scope attributes bound ≡ entryOf attributes (otherSymbol t (getD (t .others) i [])) ∷ due t scope attributes (suc id) → NextDue t bound (Other i id)
 
   module _ (t : Tables) (memory : ℕ) (v : valid t memory ≡ true) (bound : ℕ) where
@@ -93,11 +93,11 @@ module _ (scope : ℕ) (attributes : List ℕ) where
         → headOf (due t scope attributes bound) ≡ joinLeast idOf x y → NextDue t bound (nearest a b)
     unfolding due
     both-tied Empty Empty none none neither neither h = none-due (from-none idOf bound (listing t scope attributes) h)
-    both-tied (Of i id) Empty (some e) none (tied l q) neither h = tag-due l (due-step e id q h)
-    both-tied Empty (Of j k) none (some u) neither (tied l q) h = other-due l (due-step u k q h)
+    both-tied (Of i id) Empty (some e) none (tied l q) neither h = tag-due l q (due-step e id q h)
+    both-tied Empty (Of j k) none (some u) neither (tied l q) h = other-due l q (due-step u k q h)
     both-tied (Of i id) (Of j k) (some e) (some u) (tied l q) (tied m p) h =
         let same : ltb (idOf (entryAt (tagSymbol t) (t .tags) i)) (idOf (entryAt (otherSymbol t) (t .others) j)) ≡ ltb id k = cc (q, p) in
-        by-test (ltb id k) (λ b. rw b (tag-due l (due-step e id q (rw (same, b) at h)))) (λ b. rw b (other-due m (due-step u k p (rw (same, b) at h))))
+        by-test (ltb id k) (λ b. rw b (tag-due l q (due-step e id q (rw (same, b) at h)))) (λ b. rw b (other-due m p (due-step u k p (rw (same, b) at h))))
 
     pub next-due : NextDue t bound (nextIn (t .tags) (t .others) scope bound)
     unfolding tagSymbol otherSymbol
