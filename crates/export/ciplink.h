@@ -189,8 +189,13 @@ uint64_t ciplink_answer(CIPLINK_TABLES, uint32_t flags, uint8_t *memory, size_t 
 
 /* A continued read done whole: sends reads of `elements` elements (0x52) of a path, each at the number of bytes received, and
  * joins their data in `out` until status 0: the joined bytes are the selected ones. Tag memory stays as it is. Judges all of its
- * arguments anew; `reply` is the buffer for the replies, and holds nothing of use afterwards. Where nothing was joined, `out`
- * is as it was. `out` overlaps nothing else that is passed. */
+ * arguments anew. Of several reasons why nothing is joined the first one is told, in this order: a path that no request carries
+ * (CIPLINK_UNSENDABLE), the limit (CIPLINK_LIMIT_TOO_LARGE), the reply buffer (CIPLINK_BUFFER_TOO_SHORT), the tables
+ * (CIPLINK_TABLES_INVALID), a read that is turned away (CIPLINK_TURNED), no room behind the type header (CIPLINK_TOO_NARROW),
+ * no room in `out` (CIPLINK_TOO_SHORT). Where nothing was joined, `out` is as it was. Where bytes were joined or the read was
+ * turned away, `reply` has the last reply afterwards, as ciplink_message leaves it: zeros from the reply's end up to position
+ * max(8, limit), and behind that the bytes that it had. In all other outcomes nothing was sent, and `reply` is as it was. `out`
+ * overlaps nothing else that is passed. */
 uint64_t ciplink_read_whole(CIPLINK_TABLES, uint32_t flags, uint8_t *memory, size_t memory_length, const uint8_t *path,
                             size_t path_length, uint16_t elements, size_t limit, uint8_t *reply, size_t reply_length,
                             uint8_t *out, size_t out_length);

@@ -52,6 +52,7 @@ module _ (w : Whole) where
   pub whole-short : (n m : ℕ) → w ≡ whole.TooShort n → m ≡ n → 0x300000000 + m % 0x100000000 ≡ wholeCode w
   whole-short n m e k = rw (e, k)
 
-pub whole-told : (t : Tables) (g f : Flags) (q : g ≡ f) (memory path : List ℕ) (elements limit buffer : ℕ) (out new : List ℕ) (w : Whole) (r : ℕ)
-    → received w new ≡ wholeRead t g memory path elements limit buffer out → r ≡ wholeCode w → ToldWhole (wholeRead t f memory path elements limit buffer out) r new
-whole-told t g f q memory path elements limit buffer out new w r e k = rw (← q, ← e) (record { code-is = k; out-is = refl })
+pub whole-told : (t : Tables) (g f : Flags) (q : g ≡ f) (memory path : List ℕ) (elements limit : ℕ) (buffer out after new : List ℕ) (w : Whole) (r : ℕ)
+    → received w new after ≡ wholeRead t g memory path elements limit buffer out → r ≡ wholeCode w
+    → ToldWhole (wholeRead t f memory path elements limit buffer out) r new after
+whole-told t g f q memory path elements limit buffer out after new w r e k = rw (← q, ← e) (record { code-is = k; out-is = refl; buffer-is = refl })

@@ -46,6 +46,7 @@ wholeCode (TooShort n) = 0x300000000 + n % 0x100000000
 wholeCode TooNarrow = 0x400000000
 wholeCode Unsendable = 0x500000000
 
-pub record ToldWhole (w : Received) (r : ℕ) (out : List ℕ) : Type 0 where
+pub record ToldWhole (w : Received) (r : ℕ) (out buffer : List ℕ) : Type 0 where
   pub code-is : r ≡ wholeCode (w .result)
   pub out-is : out ≡ w .out
+  pub buffer-is : buffer ≡ w .buffer

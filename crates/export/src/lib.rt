@@ -258,7 +258,9 @@ pub extern "C" fn ciplink_read_whole(
     buf: &mut [u8],
     out: &mut [u8],
 ) -> u64
-    ensures { λ r. ⌜ ToldWhole (wholeRead (tablesOf (now (structures .entry)) (now (members .entry)) (now (programs .entry)) (now (tags .entry)) (now (others .entry)) (now (names .entry)) (now («tag_names» .entry)) (now (templates .entry))) (flagsIn flags) (now (memory .entry)) (now (path .entry)) elements limit (length (now (buf .entry))) (now (out .entry))) r (now (out .exit)) × (now (memory .exit) ≡ now (memory .entry)) ⌝ }
+    ensures { λ r. let t = tablesOf (now (structures .entry)) (now (members .entry)) (now (programs .entry)) (now (tags .entry))
+        (now (others .entry)) (now (names .entry)) (now («tag_names» .entry)) (now (templates .entry)) in
+        ⌜ ToldWhole (wholeRead t (flagsIn flags) (now (memory .entry)) (now (path .entry)) elements limit (now (buf .entry)) (now (out .entry))) r (now (out .exit)) (now (buf .exit)) × (now (memory .exit) ≡ now (memory .entry)) ⌝ }
 {
     whole_code(pallet::read_whole(
         structures,

@@ -11,7 +11,7 @@ use lib.ListN.{length, take, getD, length-append}
 use lib.Seq.{take-append-seam, getD-append-add}
 use borrow.Author.Tests.{leb-true, le-leb, lt-ltb, eqb-true, eqb-false, eq-eqb, ne-eqb}
 use Rattle.laws.specs.Pick.{pick}
-use Rattle.laws.specs.Put.{put}
+use Rattle.laws.specs.Put.{put, laid}
 use Rattle.laws.specs.Tests.{every}
 use Rattle.laws.proofs.Chain.{by-test, clash}
 use Rattle.laws.proofs.Put.{put-then, put-none, take-put}
@@ -247,9 +247,10 @@ module _ (t : Tables) (f : Flags) (m program attributes : List ℕ) (id limit : 
   list-granted scope numbers s c a =
       ap (λ (a : Answer). a .reply) list-answer ∙ rw (page-starts program id t scope s, c, a)
 
-  -- the status alone
+  -- the status, and the reply in the buffer
   pub list-status : (n : ℕ) (old new left : List ℕ) → Answers limit (answer t f m (listRequest program attributes id) limit) old n new left
       → (getD new 2 0 ≡ getD (answer t f m (listRequest program attributes id) limit .reply) 2 0) × (left ≡ m)
+      × (new ≡ laid (room limit) old (answer t f m (listRequest program attributes id) limit .reply))
   list-status n old new left r =
       let long = proper-answer t f m (listRequest program attributes id) limit .headed .long in
-      (laid-byte (room limit) old _ new (r .buffer-is) 2 (omega (arith, long)), r .memory-is ∙ list-keeps)
+      (laid-byte (room limit) old _ new (r .buffer-is) 2 (omega (arith, long)), r .memory-is ∙ list-keeps, r .buffer-is)

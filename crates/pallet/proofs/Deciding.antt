@@ -6,9 +6,11 @@ use mathlib.Core.List.{List}
 use mathlib.Core.Option.{Option, none, some}
 use Prim.Native.Nat.{ℕ, _+_, _≤_, _<_}
 use native.Mathlib.Omega.{arith}
-use lib.ListN.{length}
+use lib.ListN.{length, getD}
 use borrow.Author.Tests.{lt-ltb, le-ltb}
+use Rattle.laws.specs.Put.{laid}
 use Rattle.laws.proofs.Chain.{clash}
+use Rattle.definition.specs.Reply.{room}
 use Rattle.definition.specs.Tables.{Tables, Flags, Row}
 use Rattle.definition.specs.Resolve.{Resolved, found, turned}
 use Rattle.definition.specs.Access.{tagTarget}
@@ -22,8 +24,8 @@ use Rattle.tags.proofs.Reading.{ask-by}
 use Rattle.pallet.specs.declared.Whole.the-variants.{Joined, TooShort, TooNarrow, Turned}
 use Rattle.pallet.specs.declared.sizes.Size.{Size}
 use Rattle.pallet.specs.declared.sizes.Size.the-variants.{Of, Nothing}
-use Rattle.pallet.specs.Whole.{chosen, received, wholeOf}
-use Rattle.pallet.specs.Parts.{sizedOf, chosenBytes, Sendable, Joinable}
+use Rattle.pallet.specs.Whole.{chosen, Received, received, wholeOf}
+use Rattle.pallet.specs.Parts.{sizedOf, chosenBytes, lastOf, Sendable, Joinable}
 use Rattle.pallet.proofs.Sending.{readable}
 
 -- ---- something was sized: it is selected
@@ -67,37 +69,41 @@ module _ {t : Tables} (f : Flags) {memory path : List ℕ} (elements : ℕ) {lim
 
 -- ---- what it comes to
 
-module _ (memory : List ℕ) (o : Option Selection) (status limit : ℕ) (out : List ℕ) {v : Size} (sized : v ≡ sizedOf memory o) where
-  pub whole-turned : (x : ℕ) → v ≡ Nothing → x ≡ status → received (Turned x) out ≡ wholeOf o status memory limit out
+module _ (memory : List ℕ) (o : Option Selection) (first : List ℕ) (limit : ℕ) (buffer out : List ℕ) {v : Size} (sized : v ≡ sizedOf memory o) where
+  abbrev whole : Received
+  whole = wholeOf o first memory limit buffer out
+
+  pub whole-turned : (x : ℕ) (new : List ℕ) → v ≡ Nothing → x ≡ getD first 2 0 → new ≡ laid (room limit) buffer first → received (Turned x) out new ≡ whole
   unfolding sizedOf wholeOf
-  whole-turned x e k = go o (sym sized ∙ e)
+  whole-turned x new e k l = go o (sym sized ∙ e)
     where
-      go : (p : Option Selection) → sizedOf memory p ≡ Nothing → received (Turned x) out ≡ wholeOf p status memory limit out
-      go none q = rw k refl
+      go : (p : Option Selection) → sizedOf memory p ≡ Nothing → received (Turned x) out new ≡ wholeOf p first memory limit buffer out
+      go none q = rw (k, l) refl
       go (some s) q = clash (cc q)
 
   module _ (n header : ℕ) (e : v ≡ Of n header) where
-    pub whole-narrow : limit < 5 + header → received TooNarrow out ≡ wholeOf o status memory limit out
+    pub whole-narrow : limit < 5 + header → received TooNarrow out buffer ≡ whole
     unfolding sizedOf wholeOf
     whole-narrow h =
         let s = sized-some memory o n header (sym sized ∙ e) in
         rw (s .is, ← s .header-is, lt-ltb limit (5 + header) h) refl
 
-    pub whole-short : 5 + header ≤ limit → length out < n → received (TooShort n) out ≡ wholeOf o status memory limit out
+    pub whole-short : 5 + header ≤ limit → length out < n → received (TooShort n) out buffer ≡ whole
     unfolding sizedOf wholeOf
     whole-short h k =
         let s = sized-some memory o n header (sym sized ∙ e) in
         rw (s .is, ← s .header-is, le-ltb limit (5 + header) h, ← s .size-is, lt-ltb (length out) n k) refl
 
-    pub whole-joined : (r : ℕ) (filled : List ℕ) → 5 + header ≤ limit → n ≤ length out → Written 0 (chosenBytes memory o) out r filled
-        → received (Joined r) filled ≡ wholeOf o status memory limit out
+    pub whole-joined : (r : ℕ) (filled new : List ℕ) → 5 + header ≤ limit → n ≤ length out → Written 0 (chosenBytes memory o) out r filled
+        → new ≡ laid (room limit) buffer (lastOf memory limit o) → received (Joined r) filled new ≡ whole
     unfolding sizedOf wholeOf
-    whole-joined r filled h k = go o (sym sized ∙ e)
+    whole-joined r filled new h k = go o (sym sized ∙ e)
       where
         go : (p : Option Selection) → sizedOf memory p ≡ Of n header → Written 0 (chosenBytes memory p) out r filled
-            → received (Joined r) filled ≡ wholeOf p status memory limit out
-        go none q w = clash (cc q)
-        go (some s) q w =
+            → new ≡ laid (room limit) buffer (lastOf memory limit p) → received (Joined r) filled new ≡ wholeOf p first memory limit buffer out
+        go none q w l = clash (cc q)
+        go (some s) q w l =
             let a : header ≡ length (s .header) = cc q in
             let b : n ≡ length (selectedBytes s memory) = cc q in
-            rw (w .buffer-is, w .length-is, ← a, le-ltb limit (5 + header) h, le-ltb (length out) (length (selectedBytes s memory)) (omega arith)) refl
+            let c = le-ltb limit (5 + length (s .header)) (omega arith) in
+            rw (l, w .buffer-is, w .length-is, c, le-ltb (length out) (length (selectedBytes s memory)) (omega arith)) refl

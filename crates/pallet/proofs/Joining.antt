@@ -5,17 +5,20 @@ use mathlib.Core.Logic.{_≢_}
 use mathlib.Core.List.{List, []}
 use Prim.Native.Nat.{ℕ, _+_, _-_, _≤_, _<_}
 use native.Mathlib.Omega.{arith}
+use lib.Dec.{leb}
 use lib.ListN.{length, take, drop, getD, length-append, length-take, length-drop, take-append-drop}
 use lib.Seq.{take-all, take-add, drop-drop, drop-append-seam, length-take-le}
-use Rattle.laws.specs.Put.{put, laid}
-use Rattle.laws.proofs.Put.{put-then, length-part}
-use Rattle.laws.proofs.Parts.{laid-byte, laid-rest}
+use borrow.Author.Tests.{le-leb, lt-leb, leb-false}
+use Rattle.laws.specs.Put.{put, laid, KeptFrom}
+use Rattle.laws.proofs.Put.{put-then, length-part, kept-laid}
+use Rattle.laws.proofs.Parts.{laid-byte, laid-rest, laid-drop}
+use Rattle.laws.proofs.Until.{until-done, until-more}
 use Rattle.definition.specs.Reply.{Answer, reply, room}
 use Rattle.definition.specs.Tables.{Tables, Flags}
-use Rattle.definition.specs.Fragment.{space, sizeOf, statusOf, fragmentReply}
+use Rattle.definition.specs.Fragment.{space, rounded, sizeOf, statusOf, fragmentReply}
 use Rattle.definition.specs.Read.{selectedBytes}
 use Rattle.definition.specs.Answer.{answer}
-use Rattle.definition.proofs.Cut.{Cut, whole, part, cuts, size-positive, size-le, size-fits, rounded-le}
+use Rattle.definition.proofs.Cut.{Cut, whole, part, cuts, size-positive, size-le, size-fits, rounded-positive, rounded-le}
 use Rattle.definition.proofs.Replies.{proper-answer}
 use Rattle.definition.proofs.Selected.{granted-some}
 use Rattle.cip.specs.Writes.{Written}
@@ -24,8 +27,8 @@ use Rattle.continued.proofs.Point3.{selected-few}
 use Rattle.pallet.specs.declared.joins.Turn.{Turn}
 use Rattle.pallet.specs.declared.joins.Turn.the-variants.{Last, More}
 use Rattle.services.specs.Answers.{Answers}
-use Rattle.pallet.specs.Whole.{chosen, firstStatus}
-use Rattle.pallet.specs.Parts.{chosenBytes, Sendable, Joinable, Brings}
+use Rattle.pallet.specs.Whole.{chosen, lastChunk, firstReply}
+use Rattle.pallet.specs.Parts.{chosenBytes, lastOf, Sendable, Joinable, Brings}
 use Rattle.pallet.proofs.Sending.{read-keeps, readable, selected-answer}
 
 -- ---- a fragment of the bytes from an offset on
@@ -63,25 +66,29 @@ module _ (header selected old new : List ℕ) (offset limit n : ℕ) (due : offs
     ending : end ≡ offset + size
     ending = omega (arith, fragment-length)
 
-    pub brings-last : getD new 2 0 ≡ 0 → Brings selected offset out (Last end) filled
+    pub brings-last : getD new 2 0 ≡ 0 → Brings (space (length header) limit) selected offset out (Last end) filled
     brings-last z = go (cuts (length selected - offset) (space (length header) limit))
       where
-        go : Cut (length selected - offset) (space (length header) limit) → Brings selected offset out (Last end) filled
+        go : Cut (length selected - offset) (space (length header) limit) → Brings (space (length header) limit) selected offset out (Last end) filled
         go (whole h e k) = record {
-          is = (omega (arith, ending), joined ∙ ap (put out offset) (take-all size (drop offset selected) (omega (arith, length-drop offset selected))));
+          is = (
+            omega (arith, ending),
+            joined ∙ ap (put out offset) (take-all size (drop offset selected) (omega (arith, length-drop offset selected))),
+            omega arith,
+          );
         }
         go (part h e k) = absurd (omega (arith, fragment-status))
 
-    pub brings-more : getD new 2 0 ≢ 0 → Brings selected offset out (More end) filled
+    pub brings-more : getD new 2 0 ≢ 0 → Brings (space (length header) limit) selected offset out (More end) filled
     brings-more z = go (cuts (length selected - offset) (space (length header) limit))
       where
-        go : Cut (length selected - offset) (space (length header) limit) → Brings selected offset out (More end) filled
+        go : Cut (length selected - offset) (space (length header) limit) → Brings (space (length header) limit) selected offset out (More end) filled
         go (whole h e k) = absurd (z (fragment-status ∙ k))
         go (part h e k) =
             let some = size-positive (length selected - offset) (space (length header) limit) (omega arith) (omega arith) in
             let few = rounded-le (space (length header) limit) in
             let q : end - offset ≡ size = omega (arith, ending) in
-            record { is = (omega (arith, ending), omega (arith, ending), rw q joined) }
+            record { is = (omega (arith, ending), omega (arith, ending), rw q joined, omega arith, omega (arith, ending)) }
 
 -- ---- one reply to a read that selects something
 
@@ -105,6 +112,11 @@ module _ {t : Tables} {f : Flags} {m path : List ℕ} {elements limit header buf
   pub chosen-some : elements < 65536 → 0 < length (chosenBytes m (chosen t f path elements))
   chosen-some count = let r = reads count in rw chosen-bytes (granted-some t f (r .decoded) elements (j .selection) m (a .tables) (r .grants))
 
+  sent-is : (got : ℕ) → elements < 65536 → got < length (chosenBytes m (chosen t f path elements))
+      → answer t f m (readRequest path elements got) limit .reply ≡ fragmentReply 0x52 (j .selection .header) (drop got (selectedBytes (j .selection) m)) limit
+  sent-is got count due =
+      ap (λ (x : Answer). x .reply) (selected-answer t f m path elements (j .selection) got limit (reads count) (rw chosen-bytes at due))
+
 module _ {t : Tables} {f : Flags} {m path : List ℕ} {elements limit header got buffer room-out n : ℕ} {old new left : List ℕ}
     (a : Sendable t m path limit buffer) (j : Joinable t f m path elements limit header room-out) (count : elements < 65536)
     (due : got < length (chosenBytes m (chosen t f path elements)))
@@ -116,9 +128,7 @@ module _ {t : Tables} {f : Flags} {m path : List ℕ} {elements limit header got
   less = rw (chosen-bytes a j) at due
 
   reply-is : answer t f m (readRequest path elements got) limit .reply ≡ fragmentReply 0x52 (j .selection .header) (drop got selected) limit
-  reply-is =
-      ap (λ (x : Answer). x .reply)
-      (selected-answer t f m path elements (j .selection) got limit (reads a j count) less)
+  reply-is = sent-is a j got count due
 
   long : n ≡ length (fragmentReply 0x52 (j .selection .header) (drop got selected) limit)
   long = r .length-is ∙ ap (λ (l : List ℕ). length l) reply-is
@@ -147,25 +157,59 @@ module _ {t : Tables} {f : Flags} {m path : List ℕ} {elements limit header got
 
   module _ (first end : ℕ) (out filled : List ℕ) (behind : first ≡ 4 + header) (joins : filled ≡ put out got (take (n - first) (drop first new)))
       (ends : end ≡ got + (n - first)) where
-    pub part-last : getD new 2 0 ≡ 0 → Brings (chosenBytes m (chosen t f path elements)) got out (Last end) filled
+    pub part-last : getD new 2 0 ≡ 0 → Brings (space header limit) (chosenBytes m (chosen t f path elements)) got out (Last end) filled
     part-last z =
-        rw (chosen-bytes a j)
+        rw (chosen-bytes a j, j .header-is)
         (brings-last (j .selection .header) selected old new got limit n less open-space long lies first end out filled
         (omega (arith, behind, j .header-is)) joins ends z)
 
-    pub part-more : getD new 2 0 ≢ 0 → Brings (chosenBytes m (chosen t f path elements)) got out (More end) filled
+    pub part-more : getD new 2 0 ≢ 0 → Brings (space header limit) (chosenBytes m (chosen t f path elements)) got out (More end) filled
     part-more z =
-        rw (chosen-bytes a j)
+        rw (chosen-bytes a j, j .header-is)
         (brings-more (j .selection .header) selected old new got limit n less open-space long lies first end out filled
         (omega (arith, behind, j .header-is)) joins ends z)
 
--- the status alone, of any read
+-- the status of any read, and its reply in the buffer
 pub status-first : (t : Tables) (f : Flags) (m path : List ℕ) (elements limit n : ℕ) (old new left : List ℕ)
     → Answers limit (answer t f m (readRequest path elements 0) limit) old n new left
-    → (getD new 2 0 ≡ firstStatus t f m path elements limit) × (left ≡ m)
+    → (getD new 2 0 ≡ getD (firstReply t f m path elements limit) 2 0) × (left ≡ m) × (new ≡ laid (room limit) old (firstReply t f m path elements limit))
 status-first t f m path elements limit n old new left r =
     let long = proper-answer t f m (readRequest path elements 0) limit .headed .long in
-    (laid-byte (room limit) old _ new (r .buffer-is) 2 (omega (arith, long)), r .memory-is ∙ read-keeps t f m limit path elements 0)
+    (laid-byte (room limit) old _ new (r .buffer-is) 2 (omega (arith, long)), r .memory-is ∙ read-keeps t f m limit path elements 0, r .buffer-is)
+
+-- ---- the last chunk: one reply more, and the last one
+
+last-more : (s : ℕ) (chunk : List ℕ) → 0 < s → s < length chunk → lastChunk s chunk ≡ lastChunk s (drop (rounded s) chunk)
+last-more s chunk p h =
+    until-more (λ c. leb (length c) s) (drop (rounded s)) (λ c. Unit {0}) (λ c. length c)
+    (λ c g e. (tt, omega (arith, length-drop (rounded s) c, rounded-positive s p, leb-false (length c) s e)))
+    (length chunk) chunk tt (lt-leb (length chunk) s h) (omega arith)
+
+last-done : (s : ℕ) (chunk : List ℕ) → length chunk ≤ s → lastChunk s chunk ≡ chunk
+last-done s chunk h = until-done (λ c. leb (length c) s) (drop (rounded s)) (length chunk) chunk (le-leb (length chunk) s h)
+
+-- ---- the reply buffer: each reply is laid over the one before it
+
+module _ {t : Tables} {f : Flags} {m path : List ℕ} {elements limit header room-out : ℕ} (start old new : List ℕ)
+    (a : Sendable t m path limit (length start)) (j : Joinable t f m path elements limit header room-out) {memory : List ℕ} (same : memory ≡ m) (got : ℕ)
+    (kept : KeptFrom (room limit) start old) (lies : new ≡ laid (room limit) old (answer t f memory (readRequest path elements got) limit .reply)) where
+  pub reply-over : KeptFrom (room limit) start new
+  reply-over =
+      kept-laid (room limit) start old new kept _ lies (proper-answer t f memory (readRequest path elements got) limit .fits)
+      (omega (arith, kept .1, a .has-room))
+
+  abbrev all : List ℕ
+  all = chosenBytes m (chosen t f path elements)
+
+  pub reply-last : elements < 65536 → got < length all → length all ≤ got + space header limit
+      → lastChunk (space header limit) (drop got all) ≡ lastChunk (space header limit) all → new ≡ laid (room limit) start (lastOf m limit (chosen t f path elements))
+  reply-last count due fits here =
+      let e : drop got all ≡ lastChunk (space header limit) all = sym (last-done (space header limit) (drop got all) (omega (arith, length-drop got all))) ∙ here in
+      let q = rw (chosen-bytes a j, j .header-is) at e in
+      lies ∙ laid-drop (room limit) old start _ (kept .0)
+      ∙ ap (λ (x : List ℕ). laid (room limit) start (answer t f x (readRequest path elements got) limit .reply)) same
+      ∙ ap (laid (room limit) start) (sent-is a j got count due)
+      ∙ rw (j .chosen-is, q) refl
 
 -- ---- all replies: what is joined before a turn are the first of the bytes
 
@@ -181,10 +225,10 @@ pub turn-ready : {t : Tables} {f : Flags} {m path : List ℕ} {elements limit he
 turn-ready memory b o got a j same e k due = rw (same, e, k) (a, j, due)
 
 -- `selected` are the bytes by the memory at the start, `current` by the memory at a turn
-module _ {selected current out filled : List ℕ} {got : ℕ} {v : Turn} (start : List ℕ) (fits : length selected ≤ length start)
+module _ {space : ℕ} {selected current out filled : List ℕ} {got : ℕ} {v : Turn} (start : List ℕ) (fits : length selected ≤ length start)
     (same : current ≡ selected) (before : out ≡ put start 0 (take got selected)) (due : got < length selected)
-    (brings : Brings current got out v filled) where
-  brought : (w : Turn) → v ≡ w → Brings selected got out w filled
+    (brings : Brings space current got out v filled) where
+  brought : (w : Turn) → v ≡ w → Brings space selected got out w filled
   brought w e = rw (← same, ← e) brings
 
   got-length : got ≡ 0 + length (take got selected)
@@ -210,3 +254,13 @@ module _ {selected current out filled : List ℕ} {got : ℕ} {v : Turn} (start 
             put-then _ _ _ 0 _ _ _ before (b .1) got-length (omega (arith, length-drop got selected))
             ∙ ap (put start 0) (take-append-drop got selected);
       }
+
+  pub last-fits : (n : ℕ) → v ≡ Last n → length selected ≤ got + space
+  last-fits n e = brought (Last n) e .is .2
+
+  -- the rest that is due after a turn ends with the same chunk as what was due before it
+  pub chunk-on : (n : ℕ) → v ≡ More n → 0 < space → lastChunk space (drop n selected) ≡ lastChunk space (drop got selected)
+  chunk-on n e p =
+      let b = brought (More n) e .is in
+      let l : space < length (drop got selected) = omega (arith, b .3, length-drop got selected) in
+      sym (last-more space (drop got selected) p l ∙ rw (drop-drop (rounded space) got selected, ← b .4) refl)

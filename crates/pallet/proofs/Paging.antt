@@ -8,16 +8,17 @@ use mathlib.Core.Option.{some}
 use Prim.Native.Nat.{ℕ, zero, suc, _+_, _-_, _*_, _≤_, _<_}
 use native.Mathlib.Omega.{arith}
 use lib.Dec.{leb, eqb}
-use lib.ListN.{length, take, drop, getD, length-append, length-take, take-append-drop}
+use lib.ListN.{length, take, drop, getD, length-append, length-take, length-drop, take-append-drop}
 use lib.Seq.{take-all}
-use borrow.Author.Tests.{leb-true, le-leb, lt-leb, eqb-true, eqb-false}
+use borrow.Author.Tests.{leb-true, le-leb, lt-leb, eqb-true, eqb-false, eq-eqb, ne-eqb}
 use Rattle.laws.specs.Pick.{pick}
-use Rattle.laws.specs.Put.{put, laid}
+use Rattle.laws.specs.Put.{put, laid, KeptFrom}
 use Rattle.laws.specs.Sorted.{All}
 use Rattle.laws.proofs.Chain.{by-test}
-use Rattle.laws.proofs.Put.{put-then}
-use Rattle.laws.proofs.Parts.{laid-byte, laid-rest}
+use Rattle.laws.proofs.Put.{put-then, kept-laid, kept-then, kept-less}
+use Rattle.laws.proofs.Parts.{laid-byte, laid-rest, laid-drop}
 use Rattle.laws.proofs.Sorted.{All-from}
+use Rattle.laws.proofs.Until.{until-done, until-more}
 use Rattle.definition.specs.Bytes.{numbers}
 use Rattle.definition.specs.Reply.{reply, room}
 use Rattle.definition.specs.Tables.{Tables, Flags, Row}
@@ -36,8 +37,8 @@ use Rattle.pallet.specs.declared.joins.Turn.{Turn}
 use Rattle.pallet.specs.declared.joins.Turn.the-variants.{Last, More}
 use Rattle.pallet.specs.declared.walks.Start.{Start}
 use Rattle.pallet.specs.declared.walks.Start.the-variants.{At, Nowhere}
-use Rattle.pallet.specs.Lists.{listRequest, longest}
-use Rattle.pallet.specs.Turns.{Askable, Granted, behind, StartsAt, BringsPage, Page}
+use Rattle.pallet.specs.Lists.{listRequest, longest, behind, lastPage}
+use Rattle.pallet.specs.Turns.{Askable, Granted, StartsAt, BringsPage, Page}
 use Rattle.pallet.proofs.Asking.{askable-short, list-keeps, list-granted}
 
 -- ---- entries and the longest of them
@@ -125,16 +126,22 @@ module _ (es : List Entry) (limit n : ℕ) (old new : List ℕ) (room-for : 4 + 
     page-last z =
         by-test (eqb k (length es))
         (λ b. let all : take k es ≡ es = take-all k es (omega (arith, eqb-true k (length es) b)) in
-        record { is = (omega (arith, page-length, ap (λ (l : List Entry). length (bytesOf l)) all), page-put ∙ ap (λ (l : List Entry). put out got (bytesOf l)) all) })
+        record {
+          is = (
+            omega (arith, page-length, ap (λ (l : List Entry). length (bytesOf l)) all),
+            page-put ∙ ap (λ (l : List Entry). put out got (bytesOf l)) all,
+            eqb-true k (length es) b,
+          );
+        })
         (λ b. let six : getD new 2 0 ≡ 6 = page-status ∙ rw b refl in absurd (omega (arith, z, six)))
 
     page-more : All (λ e. 0 < length (e .bytes)) es → getD new 2 0 ≢ 0 → Page es limit got out (More end) filled
     page-more positive z =
         by-test (eqb k (length es))
         (λ b. absurd (z (page-status ∙ rw b refl)))
-        (λ b. let some : 0 < length es = omega (arith, fitting-le (limit - 4) es, eqb-false k (length es) b) in
-        let bytes = bytes-some es positive k (fitting-some (limit - 4) es each-fits some) some in
-        record { is = (omega (arith, page-length), omega (arith, page-length, bytes), page-put) })
+        (λ b. let few : k < length es = omega (arith, fitting-le (limit - 4) es, eqb-false k (length es) b) in
+        let bytes = bytes-some es positive k (fitting-some (limit - 4) es each-fits (omega arith)) (omega arith) in
+        record { is = (omega (arith, page-length), omega (arith, page-length, bytes), page-put, few) })
 
 -- ---- one page that is granted
 
@@ -155,7 +162,7 @@ module _ {t : Tables} (f : Flags) {m program attributes : List ℕ} {limit buffe
   size-is : size ≡ length (pageReply 0x55 entries limit)
   size-is = r .length-is ∙ ap (λ (l : List ℕ). length l) reply-is
 
-  lies : new ≡ laid (room limit) old (pageReply 0x55 entries limit)
+  pub lies : new ≡ laid (room limit) old (pageReply 0x55 entries limit)
   lies = r .buffer-is ∙ ap (laid (room limit) old) reply-is
 
   pub turn-keeps : left ≡ m
@@ -181,7 +188,22 @@ module _ {t : Tables} (f : Flags) {m program attributes : List ℕ} {limit buffe
     pub turn-more : getD new 2 0 ≢ 0 → Page entries limit got out (More end) filled
     turn-more = page-more entries limit size old new room-for size-is lies got end out filled joins ends (due-some t scope (numbers n (drop 2 attributes)) start)
 
--- ---- all pages: what is joined before a turn and what is left make up all entries
+-- ---- the last page: one page more, and the last one
+
+last-more : (limit : ℕ) (es : List Entry) → 4 + longest es ≤ limit → fitting (limit - 4) es < length es → lastPage limit es ≡ lastPage limit (behind limit es)
+last-more limit es g h =
+    until-more (λ l. eqb (fitting (limit - 4) l) (length l)) (behind limit) (λ l. 4 + longest l ≤ limit) (λ l. length l)
+    (λ l r e. let k = fitting (limit - 4) l in
+    let some : 0 < length l = omega (arith, fitting-le (limit - 4) l, eqb-false k (length l) e) in
+    let fits = fitting-some (limit - 4) l (longest-all l (limit - 4) (omega arith)) some in
+    (omega (arith, longest-drop k l), omega (arith, length-drop k l, fits)))
+    (length es) es g (ne-eqb (fitting (limit - 4) es) (length es) (λ e. absurd (omega arith))) (omega arith)
+
+last-done : (limit : ℕ) (es : List Entry) → fitting (limit - 4) es ≡ length es → lastPage limit es ≡ es
+last-done limit es e =
+    until-done (λ l. eqb (fitting (limit - 4) l) (length l)) (behind limit) (length es) es (eq-eqb (fitting (limit - 4) es) (length es) e)
+
+-- ---- all pages: what is joined before a turn and what is left make up all entries, and end with the same page
 
 pub record Joins (all left : List Entry) (limit got : ℕ) (start out : List ℕ) : Type 0 where
   pub passed : List ℕ
@@ -189,10 +211,11 @@ pub record Joins (all left : List Entry) (limit got : ℕ) (start out : List ℕ
   pub got-is : got ≡ length passed
   pub out-is : out ≡ put start 0 passed
   pub room-for : 4 + longest left ≤ limit
+  pub ends : lastPage limit left ≡ lastPage limit all
 
 pub joins-none : (all : List Entry) (limit : ℕ) (start : List ℕ) → 4 + longest all ≤ limit → Joins all all limit 0 start start
 unfolding put
-joins-none all limit start h = record { passed = []; whole = refl; got-is = refl; out-is = refl; room-for = h }
+joins-none all limit start h = record { passed = []; whole = refl; got-is = refl; out-is = refl; room-for = h; ends = refl }
 
 module _ {all left : List Entry} {limit got : ℕ} {start out : List ℕ} (j : Joins all left limit got start out)
     (fits : length (bytesOf all) ≤ length start) where
@@ -242,18 +265,34 @@ module _ {all left : List Entry} {limit got : ℕ} {start out : List ℕ} (j : J
           got-is = omega (arith, b .0, j .got-is, length-append (j .passed) (bytesOf (take k left)));
           out-is = joined-more (bytesOf (take k left)) (b .2) (bytes-front k left);
           room-for = rw q (omega (arith, j .room-for, longest-drop k left));
+          ends = rw q (sym (last-more limit left (j .room-for) (b .3)) ∙ j .ends);
         }
 
-    pub joins-end : (n : ℕ) → v ≡ More n → behind limit left ≡ [] → Written 0 (bytesOf all) start n filled
-    unfolding bytesOf
-    joins-end n e q =
-        let b = joins-on n [] e (sym q) in
-        let w : bytesOf all ≡ b .passed = b .whole ∙ append-nil (b .passed) in
-        record { length-is = b .got-is ∙ ap (λ (l : List ℕ). length l) (sym w); buffer-is = b .out-is ∙ ap (put start 0) (sym w) }
+    -- a page that is not the last leaves something due
+    pub joins-left : (n : ℕ) → v ≡ More n → behind limit left ≡ [] → ⊥
+    joins-left n e q =
+        let b = brought (More n) e in
+        omega (arith, b .3, length-drop (fitting (limit - 4) left) left, ap (λ (l : List Entry). length l) q)
 
-module _ (t : Tables) (scope : ℕ) (attributes : List ℕ) (left : List Entry) (s : Start) (at : StartsAt t scope attributes left s) where
+    -- the reply buffer: each page is laid over the one before it and what was walked over meanwhile
+    module _ (first old new : List ℕ) (kept : KeptFrom (room limit) first old) (holds : room limit ≤ length first)
+        (lies : new ≡ laid (room limit) old (pageReply 0x55 left limit)) where
+      page-over : KeptFrom (room limit) first new
+      page-over =
+          let l = page-length left limit (length (pageReply 0x55 left limit)) [] _ (j .room-for) refl refl in
+          kept-laid (room limit) first old new kept _ lies (omega (arith, l, fitting-bytes (limit - 4) left, j .room-for)) (omega (arith, kept .1))
+
+      pub page-walked : (size : ℕ) (after : List ℕ) → size ≤ limit → KeptFrom size new after → KeptFrom (room limit) first after
+      page-walked size after h k = kept-then (room limit) first new after page-over (kept-less size (room limit) new after (omega arith) k)
+
+      pub page-stays : (n : ℕ) → v ≡ Last n → new ≡ laid (room limit) first (pageReply 0x55 (lastPage limit all) limit)
+      page-stays n e =
+          let same : left ≡ lastPage limit all = sym (last-done limit left (brought (Last n) e .2)) ∙ j .ends in
+          lies ∙ laid-drop (room limit) old first _ (kept .0) ∙ ap (λ (l : List Entry). laid (room limit) first (pageReply 0x55 l limit)) same
+
+module _ (t : Tables) (scope : ℕ) (attributes : List ℕ) (start : ℕ) (listed left : List Entry) (s : Start) (at : StartsAt t scope attributes start listed left s) where
   pub starts-known : (id : ℕ) → s ≡ At id → due t scope attributes id ≡ left
-  starts-known id q = rw q at at
+  starts-known id q = let a : StartsAt t scope attributes start listed left (At id) = rw q at at in a .1
 
   pub starts-nowhere : s ≡ Nowhere → left ≡ []
   starts-nowhere q = rw q at at

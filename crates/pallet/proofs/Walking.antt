@@ -6,10 +6,12 @@ use mathlib.Core.List.{List, [], _∷_, map}
 use Prim.Native.Nat.{ℕ, suc, _+_, _-_, _*_, _≤_, _<_, max}
 use native.Mathlib.Omega.{arith}
 use lib.Dec.{leb, ltb, eqb}
-use lib.ListN.{length, drop, length-append, length-map}
+use lib.ListN.{length, take, drop, length-append, length-map}
 use borrow.Author.Tests.{leb-true, le-leb, lt-leb, ltb-false}
 use Rattle.laws.specs.Fold.{fold}
+use Rattle.laws.specs.Put.{KeptFrom}
 use Rattle.laws.proofs.Chain.{by-test, pick-all}
+use Rattle.laws.proofs.Put.{kept-put}
 use Rattle.laws.proofs.Sorted.{length-sort, length-from}
 use Rattle.laws.proofs.Tests.{among, both-none}
 use Rattle.definition.specs.Tables.{Tables, Row, tagScope, tagId, otherScope}
@@ -22,14 +24,14 @@ use Rattle.model.specs.declared.least.Least.the-variants.{Of, Empty}
 use Rattle.model.specs.declared.least.Next.{Next}
 use Rattle.model.specs.declared.least.Next.the-variants.{Tag, Other, Nothing}
 use Rattle.model.proofs.Due.{NextDue, none-due, tag-due, other-due, next-due}
-use Rattle.listing.specs.Entries.{Stepped, more, full, done}
+use Rattle.listing.specs.Entries.{Stepped, more, full, done, EachValid, SomeValid}
 use Rattle.listing.specs.declared.pages.Step.{Step}
 use Rattle.listing.specs.declared.pages.Step.the-variants.{More, Full, Done}
 use Rattle.pallet.specs.declared.walks.Measure.the-variants.{Total, Narrow}
 use Rattle.pallet.specs.declared.walks.Start.{Start}
 use Rattle.pallet.specs.declared.walks.Start.the-variants.{At, Nowhere}
 use Rattle.pallet.specs.Lists.{longest}
-use Rattle.pallet.specs.Turns.{Measured, behind, startBy, StartsAt}
+use Rattle.pallet.specs.Turns.{Measured, nextId, startBy, StartsAt}
 
 -- ---- T1: a scope has few symbols
 
@@ -97,7 +99,7 @@ module _ (t : Tables) (scope : ℕ) (attributes : List ℕ) (limit bound : ℕ) 
   module _ (all : List Entry) (total : ℕ) (m : Measuring limit all (due t scope attributes bound) total) where
     on-more : {u b h : ℕ} {new : List ℕ} → limit ≤ 65535 → Stepped t scope attributes limit 4 bound old (More u b h) new
         → Measuring limit all (due t scope attributes b) (total + (u - 4)) × (total + 65535 ≤ 71302080)
-    on-more l (more e d k h p) =
+    on-more l (more e i d k h p) =
         (measure-on limit all _ total m e _ _ d k h l, let f = rw d at (m .few) in omega (arith, f))
 
     on-full : {new : List ℕ} → Stepped t scope attributes limit 4 bound old Full new → limit < 4 + longest all
@@ -119,8 +121,11 @@ module _ (t : Tables) (scope : ℕ) (attributes : List ℕ) (limit bound : ℕ) 
 
 -- ---- the entries passed as far as they fit: what is left from here on is what is left from the start
 
-abbrev pub leftBy : (space : ℕ) → List Entry → List Entry
+abbrev leftBy : (space : ℕ) → List Entry → List Entry
 leftBy space entries = drop (fitting space entries) entries
+
+abbrev frontBy : (space : ℕ) → List Entry → List Entry
+frontBy space entries = take (fitting space entries) entries
 
 module _ (limit used : ℕ) (e : Entry) (es left : List Entry) (d : left ≡ e ∷ es) where
   left-more : (u : ℕ) → u ≡ used + length (e .bytes) → u ≤ limit → leftBy (limit - u) es ≡ leftBy (limit - used) left
@@ -129,37 +134,69 @@ module _ (limit used : ℕ) (e : Entry) (es left : List Entry) (d : left ≡ e �
       let s : limit - used - length (e .bytes) ≡ limit - u = omega arith in
       rw (d, le-leb (length (e .bytes)) (limit - used) (omega arith), s)
 
-  left-full : used ≤ limit → limit < used + length (e .bytes) → left ≡ leftBy (limit - used) left
+  next-more : (u bound b : ℕ) → u ≡ used + length (e .bytes) → u ≤ limit → b ≡ suc (e .id)
+      → nextId b (frontBy (limit - u) es) ≡ nextId bound (frontBy (limit - used) left)
+  unfolding fitting nextId
+  next-more u bound b k h i =
+      let s : limit - used - length (e .bytes) ≡ limit - u = omega arith in
+      rw (d, le-leb (length (e .bytes)) (limit - used) (omega arith), s, i)
+
+  module _ (l : used ≤ limit) (h : limit < used + length (e .bytes)) where
+    left-full : left ≡ leftBy (limit - used) left
+    unfolding fitting
+    left-full = rw (d, lt-leb (length (e .bytes)) (limit - used) (omega arith))
+
+    next-full : (bound : ℕ) → bound ≡ nextId bound (frontBy (limit - used) left)
+    unfolding fitting nextId
+    next-full bound = rw (d, lt-leb (length (e .bytes)) (limit - used) (omega arith))
+
+module _ (space : ℕ) (left : List Entry) (d : left ≡ []) where
+  left-none : left ≡ leftBy space left
   unfolding fitting
-  left-full l h = rw (d, lt-leb (length (e .bytes)) (limit - used) (omega arith))
+  left-none = rw d
 
-left-none : (space : ℕ) (left : List Entry) → left ≡ [] → left ≡ leftBy space left
-unfolding fitting
-left-none space left d = rw d
+  next-none : (bound : ℕ) → bound ≡ nextId bound (frontBy space left)
+  unfolding fitting nextId
+  next-none bound = rw d
 
-module _ (t : Tables) (scope : ℕ) (attributes : List ℕ) (limit used bound : ℕ) (old : List ℕ) where
-  past-more : {u b h : ℕ} {new : List ℕ} → Stepped t scope attributes limit used bound old (More u b h) new
-      → leftBy (limit - u) (due t scope attributes b) ≡ leftBy (limit - used) (due t scope attributes bound)
-  past-more (more e d k h p) = left-more limit used e _ _ d _ k h
+module _ (t : Tables) (scope : ℕ) (attributes : List ℕ) where
+  -- from a bound on, with so much space, the entries that fit end before this ID and leave these due
+  abbrev pub Passes : (space bound id : ℕ) (left : List Entry) → Type 0
+  Passes space bound id left =
+      (nextId bound (frontBy space (due t scope attributes bound)) ≡ id) × (leftBy space (due t scope attributes bound) ≡ left)
 
-  past-full : {new : List ℕ} → used ≤ limit → Stepped t scope attributes limit used bound old Full new
-      → due t scope attributes bound ≡ leftBy (limit - used) (due t scope attributes bound)
-  past-full l (full e es d h p) = left-full limit used e es _ d l h
+  module _ (limit used bound : ℕ) (old : List ℕ) (id : ℕ) (left : List Entry) (here : Passes (limit - used) bound id left) where
+    past-more : {u b h : ℕ} {new : List ℕ} → Stepped t scope attributes limit used bound old (More u b h) new → Passes (limit - u) b id left
+    past-more (more e i d k h p) = (next-more limit used e _ _ d _ _ _ k h i ∙ here .0, left-more limit used e _ _ d _ k h ∙ here .1)
 
-  past-done : {new : List ℕ} → Stepped t scope attributes limit used bound old Done new
-      → due t scope attributes bound ≡ leftBy (limit - used) (due t scope attributes bound)
-  past-done (done d p) = left-none (limit - used) _ d
+    past-full : {new : List ℕ} → used ≤ limit → Stepped t scope attributes limit used bound old Full new → (bound ≡ id) × (due t scope attributes bound ≡ left)
+    past-full l (full e es d h p) = (next-full limit used e es _ d l h bound ∙ here .0, left-full limit used e es _ d l h ∙ here .1)
 
-  module _ (s : Step) (new : List ℕ) (all : List Entry) (step : Stepped t scope attributes limit used bound old s new)
-      (here : leftBy (limit - used) (due t scope attributes bound) ≡ behind limit all) where
-    pub bound-more : {u b h : ℕ} → s ≡ More u b h → leftBy (limit - u) (due t scope attributes b) ≡ behind limit all
-    bound-more q = past-more (rw q at step) ∙ here
+    past-done : {new : List ℕ} → Stepped t scope attributes limit used bound old Done new → (bound ≡ id) × (due t scope attributes bound ≡ left)
+    past-done (done d p) = (next-none (limit - used) _ d bound ∙ here .0, left-none (limit - used) _ d ∙ here .1)
 
-    pub bound-full : s ≡ Full → used ≤ limit → due t scope attributes bound ≡ behind limit all
-    bound-full q l = past-full l (rw q at step) ∙ here
+    module _ (s : Step) (new : List ℕ) (step : Stepped t scope attributes limit used bound old s new) where
+      pub bound-more : {u b h : ℕ} → s ≡ More u b h → Passes (limit - u) b id left
+      bound-more q = past-more (rw q at step)
 
-    pub bound-done : s ≡ Done → due t scope attributes bound ≡ behind limit all
-    bound-done q = past-done (rw q at step) ∙ here
+      pub bound-full : s ≡ Full → used ≤ limit → (bound ≡ id) × (due t scope attributes bound ≡ left)
+      bound-full q l = past-full l (rw q at step)
+
+      pub bound-done : s ≡ Done → (bound ≡ id) × (due t scope attributes bound ≡ left)
+      bound-done q = past-done (rw q at step)
+
+-- ---- the buffer: a step writes between what is used and the limit
+
+step-kept : (t : Tables) (scope : ℕ) (attributes : List ℕ) (limit used bound : ℕ) (a old : List ℕ) (s : Step) (new : List ℕ)
+    → KeptFrom limit a old → limit ≤ length old → Stepped t scope attributes limit used bound old s new → KeptFrom limit a new
+step-kept t scope attributes limit used bound a old s new k l (more e i d u h p) = kept-put limit a old new k used (e .bytes) p (omega arith) l
+step-kept t scope attributes limit used bound a old s new k l (full e es d h p) = rw p k
+step-kept t scope attributes limit used bound a old s new k l (done d p) = rw p k
+
+pub walk-kept : {structures tags others : List Row} {names tagNames : List ℕ} {scope : ℕ} {attributes : List ℕ} {limit used bound : ℕ} (a : List ℕ) {old new : List ℕ} {s : Step}
+    → SomeValid structures tags others names tagNames → KeptFrom limit a old → limit ≤ length a
+    → EachValid structures tags others names tagNames (λ t. Stepped t scope attributes limit used bound old s new) → KeptFrom limit a new
+walk-kept a w k l each = step-kept _ _ _ _ _ _ _ _ _ _ k (omega (arith, k .1)) (each (w .members) (w .programs) (w .templates) (w .memory) (w .ok))
 
 -- ---- a bound that something is due from: the least ID from it on is not below it
 
@@ -213,12 +250,13 @@ module _ (scope bound : ℕ) where
     pub other-above : {i id : ℕ} → found ≡ Other i id → bound ≤ id
     other-above q = rw (← is, q) at (next-above tags others)
 
-module _ (t : Tables) (scope : ℕ) (attributes : List ℕ) (bound : ℕ) (left : List Entry) (here : due t scope attributes bound ≡ left) where
-  starts-by : (n : Next) → NextDue scope attributes t bound n → StartsAt t scope attributes left (startBy bound n)
-  starts-by Nothing (none-due e) = sym here ∙ e
-  starts-by (Tag i id) (tag-due h e) = here
-  starts-by (Other i id) (other-due h e) = here
+module _ (t : Tables) (scope : ℕ) (attributes : List ℕ) (start bound : ℕ) (listed left : List Entry)
+    (here : (bound ≡ nextId start listed) × (due t scope attributes bound ≡ left)) where
+  starts-by : (n : Next) → NextDue scope attributes t bound n → StartsAt t scope attributes start listed left (startBy bound n)
+  starts-by Nothing (none-due e) = sym (here .1) ∙ e
+  starts-by (Tag i id) (tag-due h q e) = here
+  starts-by (Other i id) (other-due h q e) = here
 
   pub starts-next : (memory : ℕ) → valid t memory ≡ true → (r : Start) → r ≡ startBy bound (nextIn (t .tags) (t .others) scope bound)
-      → StartsAt t scope attributes left r
+      → StartsAt t scope attributes start listed left r
   starts-next memory v r e = rw e (starts-by _ (next-due scope attributes t memory v bound))

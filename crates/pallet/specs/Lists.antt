@@ -1,24 +1,26 @@
 -- A whole list: the continued symbol pages of document 01's point 3, asked for by the program itself. What it comes to, and what the lent
--- buffer holds afterwards: the joined bytes are the entries of all symbols of the scope, ascending by ID, whatever the limit.
+-- buffer and the reply buffer hold afterwards: the joined bytes are the entries of all symbols of the scope, ascending by ID, whatever the limit.
+use mathlib.Core.Path.{_≡_}
 use mathlib.Core.Bool.{Bool, not}
 use mathlib.Core.List.{List, [], _∷_, _++_}
 use mathlib.Core.Option.{Option, none, some}
-use Prim.Native.Nat.{ℕ, suc, _+_, _/_, _%_, max}
+use Prim.Native.Nat.{ℕ, suc, _+_, _-_, _/_, _%_, max}
 use lib.Dec.{ltb, leb, eqb}
-use lib.ListN.{length, getD}
+use lib.ListN.{length, getD, drop}
 use Rattle.laws.specs.Pick.{pick, both}
-use Rattle.laws.specs.Put.{put}
+use Rattle.laws.specs.Put.{put, laid, KeptFrom}
 use Rattle.laws.specs.Tests.{every}
+use Rattle.laws.specs.Until.{until}
 use Rattle.definition.specs.Bytes.{le32, counted}
 use Rattle.definition.specs.Reply.{room}
 use Rattle.definition.specs.Tables.{Tables, Flags}
 use Rattle.definition.specs.Lookup.{programOf}
 use Rattle.definition.specs.Valid.{valid}
-use Rattle.definition.specs.Page.{Entry, bytesOf}
+use Rattle.definition.specs.Page.{Entry, bytesOf, fitting, pageReply}
 use Rattle.definition.specs.Symbols.{isListed, due}
 use Rattle.definition.specs.Answer.{answer}
+use Rattle.pallet.specs.declared.Whole.{Whole}
 use Rattle.pallet.specs.declared.Whole.the-variants.{Joined, TooShort, TooNarrow, Turned, Refused, Unsendable}
-use Rattle.pallet.specs.Whole.{Received, received}
 
 -- ---- what is asked for
 
@@ -60,30 +62,61 @@ listRequest program attributes id = 0x55 ∷ length (listPath program id) / 2 �
 abbrev pub isAskable : (program attributes : List ℕ) → Bool
 isAskable program attributes = both (leb (length program) 255) (leb (length attributes) 1024)
 
--- the general status that a page from ID 0 on is answered with
-abbrev pub firstPage : Tables → Flags → (memory program attributes : List ℕ) (limit : ℕ) → ℕ
-firstPage t f memory program attributes limit = getD (answer t f memory (listRequest program attributes 0) limit .reply) 2 0
+-- what a page from ID 0 on is answered with
+abbrev pub firstPage : Tables → Flags → (memory program attributes : List ℕ) (limit : ℕ) → List ℕ
+firstPage t f memory program attributes limit = answer t f memory (listRequest program attributes 0) limit .reply
 
 -- ---- what the whole list comes to
+
+pub record Listed : Type 0 where
+  pub result : Whole
+  pub out : List ℕ
+
+abbrev pub listed : Whole → (out : List ℕ) → Listed
+listed result out = record { result = result; out = out }
 
 unfoldable pub longest : List Entry → ℕ
 longest [] = 0
 longest (e ∷ es) = max (length (e .bytes)) (longest es)
 
--- `turned`: the general status of a page that is not granted
-unfoldable pub wholeOfList : Option (List Entry) → (turned limit : ℕ) (out : List ℕ) → Received
-wholeOfList none turned limit out = received (Turned turned) out
-wholeOfList (some entries) turned limit out =
+-- `first`: the reply to a page from ID 0 on, the only one where no page is granted; its third byte is the general status
+unfoldable pub wholeOfList : Option (List Entry) → (first : List ℕ) (limit : ℕ) (out : List ℕ) → Listed
+wholeOfList none first limit out = listed (Turned (getD first 2 0)) out
+wholeOfList (some entries) first limit out =
     let bytes = bytesOf entries in
-    pick (ltb limit (4 + longest entries)) (received TooNarrow out)
-    (pick (ltb (length out) (length bytes)) (received (TooShort (length bytes)) out)
-    (received (Joined (length bytes)) (put out 0 bytes)))
+    pick (ltb limit (4 + longest entries)) (listed TooNarrow out)
+    (pick (ltb (length out) (length bytes)) (listed (TooShort (length bytes)) out)
+    (listed (Joined (length bytes)) (put out 0 bytes)))
 
 -- `buffer` is the reply buffer's length
-unfoldable pub wholeList : Tables → Flags → (memory program attributes : List ℕ) (limit buffer : ℕ) (out : List ℕ) → Received
+unfoldable pub wholeList : Tables → Flags → (memory program attributes : List ℕ) (limit buffer : ℕ) (out : List ℕ) → Listed
 wholeList t f memory program attributes limit buffer out =
-    pick (not (isAskable program attributes)) (received Unsendable out)
-    (pick (ltb 65535 limit) (received (Refused 2) out)
-    (pick (ltb buffer (room limit)) (received (Refused 3) out)
-    (pick (not (valid t (length memory))) (received (Refused 4) out)
+    pick (not (isAskable program attributes)) (listed Unsendable out)
+    (pick (ltb 65535 limit) (listed (Refused 2) out)
+    (pick (ltb buffer (room limit)) (listed (Refused 3) out)
+    (pick (not (valid t (length memory))) (listed (Refused 4) out)
     (wholeOfList (entriesOf t program attributes) (firstPage t f memory program attributes limit) limit out))))
+
+-- ---- what the reply buffer holds afterwards
+
+-- what a page leaves due
+abbrev pub behind : (limit : ℕ) → List Entry → List Entry
+behind limit entries = drop (fitting (limit - 4) entries) entries
+
+-- the entries that the last page is asked for: as long as not all fit, those that fit come and the rest is due
+abbrev pub lastPage : (limit : ℕ) → List Entry → List Entry
+lastPage limit entries = until (λ es. eqb (fitting (limit - 4) es) (length es)) (behind limit) (length entries) entries
+
+-- the last of the pages that bring all entries
+abbrev pub lastListed : (limit : ℕ) → Option (List Entry) → List ℕ
+lastListed limit none = []
+lastListed limit (some entries) = pageReply 0x55 (lastPage limit entries) limit
+
+-- as it was where nothing was done; free up to max(8, limit) where entries were measured there and no page asked for; else the last reply
+abbrev pub ListBuffer : (limit : ℕ) (first last old : List ℕ) → Whole → (new : List ℕ) → Type 0
+ListBuffer limit first last old (Joined n) new = new ≡ laid (room limit) old last
+ListBuffer limit first last old (TooShort n) new = KeptFrom (room limit) old new
+ListBuffer limit first last old TooNarrow new = KeptFrom (room limit) old new
+ListBuffer limit first last old (Turned status) new = new ≡ laid (room limit) old first
+ListBuffer limit first last old (Refused number) new = new ≡ old
+ListBuffer limit first last old Unsendable new = new ≡ old

@@ -9,6 +9,7 @@ use lib.ListN.{length, take, drop}
 use Rattle.laws.specs.Pick.{pick}
 use Rattle.laws.specs.Put.{put}
 use Rattle.definition.specs.Reply.{room}
+use Rattle.definition.specs.Fragment.{rounded}
 use Rattle.definition.specs.Tables.{Tables, Flags, noBit}
 use Rattle.definition.specs.Valid.{valid}
 use Rattle.definition.specs.Read.{Selection, selectedBytes}
@@ -20,7 +21,7 @@ use Rattle.pallet.specs.declared.sizes.Size.{Size}
 use Rattle.pallet.specs.declared.sizes.Size.the-variants.{Of, Nothing}
 use Rattle.pallet.specs.declared.joins.Turn.{Turn}
 use Rattle.pallet.specs.declared.joins.Turn.the-variants.{Last, More}
-use Rattle.pallet.specs.Whole.{chosen, isSendable}
+use Rattle.pallet.specs.Whole.{chosen, isSendable, lastReply}
 
 -- the number of bytes selected, and of those of their type header
 unfoldable pub sizedOf : (memory : List ℕ) → Option Selection → Size
@@ -35,6 +36,10 @@ sizedBy g elements (Refused status) = Nothing
 abbrev pub chosenBytes : (memory : List ℕ) → Option Selection → List ℕ
 chosenBytes memory none = []
 chosenBytes memory (some s) = selectedBytes s memory
+
+abbrev pub lastOf : (memory : List ℕ) (limit : ℕ) → Option Selection → List ℕ
+lastOf memory limit none = []
+lastOf memory limit (some s) = lastReply s memory limit
 
 -- a read that the entry takes
 pub record Sendable (t : Tables) (memory path : List ℕ) (limit buffer : ℕ) : Type 0 where
@@ -51,10 +56,12 @@ pub record Joinable (t : Tables) (f : Flags) (memory path : List ℕ) (elements 
   pub some-room : 5 + header ≤ limit
   pub fits : length (selectedBytes selection memory) ≤ out
 
--- one reply's data, joined at the number of bytes received: the rest of what is selected, or some of it
-abbrev pub BringsOn : (selected : List ℕ) (got : ℕ) (old : List ℕ) → Turn → (new : List ℕ) → Type 0
-BringsOn selected got old (Last n) new = (n ≡ length selected) × (new ≡ put old got (drop got selected))
-BringsOn selected got old (More n) new = (got < n) × (n < length selected) × (new ≡ put old got (take (n - got) (drop got selected)))
+-- one reply's data, joined at the number of bytes received: the rest of what is selected where it has room, else as much of it as is sent
+abbrev pub BringsOn : (space : ℕ) (selected : List ℕ) (got : ℕ) (old : List ℕ) → Turn → (new : List ℕ) → Type 0
+BringsOn space selected got old (Last n) new = (n ≡ length selected) × (new ≡ put old got (drop got selected)) × (length selected ≤ got + space)
+BringsOn space selected got old (More n) new =
+    (got < n) × (n < length selected) × (new ≡ put old got (take (n - got) (drop got selected)))
+    × (got + space < length selected) × (n ≡ got + rounded space)
 
-pub record Brings (selected : List ℕ) (got : ℕ) (old : List ℕ) (v : Turn) (new : List ℕ) : Type 0 where
-  pub is : BringsOn selected got old v new
+pub record Brings (space : ℕ) (selected : List ℕ) (got : ℕ) (old : List ℕ) (v : Turn) (new : List ℕ) : Type 0 where
+  pub is : BringsOn space selected got old v new

@@ -1,9 +1,9 @@
 -- What is known of a page before it is asked for, what one page brings, and the walk over the entries due.
 use mathlib.Core.Path.{_≡_}
 use mathlib.Core.Bool.{true}
-use mathlib.Core.List.{List, []}
+use mathlib.Core.List.{List, [], _∷_}
 use mathlib.Core.Option.{Option, none, some}
-use Prim.Native.Nat.{ℕ, _+_, _-_, _*_, _≤_, _<_}
+use Prim.Native.Nat.{ℕ, suc, _+_, _-_, _*_, _≤_, _<_}
 use lib.Dec.{eqb}
 use lib.ListN.{length, take, drop}
 use Rattle.laws.specs.Pick.{pick}
@@ -13,7 +13,7 @@ use Rattle.definition.specs.Bytes.{numbers, counted}
 use Rattle.definition.specs.Reply.{room}
 use Rattle.definition.specs.Tables.{Tables, Row}
 use Rattle.definition.specs.Valid.{valid}
-use Rattle.definition.specs.Page.{Entry, bytesOf, fitting}
+use Rattle.definition.specs.Page.{Entry, idOf, bytesOf, fitting}
 use Rattle.definition.specs.Symbols.{isListed, due}
 use Rattle.model.specs.declared.least.Next.{Next}
 use Rattle.model.specs.declared.least.Next.the-variants.{Tag, Other, Nothing}
@@ -76,9 +76,14 @@ abbrev pub Measured : List Entry → (limit : ℕ) → Measure → Type 0
 Measured entries limit (Total n) = (n ≡ length (bytesOf entries)) × (4 + longest entries ≤ limit)
 Measured entries limit Narrow = limit < 4 + longest entries
 
--- what a page leaves due
-abbrev pub behind : (limit : ℕ) → List Entry → List Entry
-behind limit entries = drop (fitting (limit - 4) entries) entries
+-- what a page lists
+abbrev pub front : (limit : ℕ) → List Entry → List Entry
+front limit entries = take (fitting (limit - 4) entries) entries
+
+-- the last listed ID plus one; the start where nothing is listed
+unfoldable pub nextId : (start : ℕ) → List Entry → ℕ
+nextId start [] = start
+nextId start (e ∷ es) = nextId (suc (idOf e)) es
 
 -- a bound that something is due from is a start ID
 abbrev pub startBy : (bound : ℕ) → Next → Start
@@ -86,18 +91,19 @@ startBy bound (Tag i id) = At bound
 startBy bound (Other i id) = At bound
 startBy bound Nothing = Nowhere
 
--- the page behind a page starts where what is left is due, or nothing is left
-abbrev pub StartsAt : Tables → (scope : ℕ) (attributes : List ℕ) (left : List Entry) → Start → Type 0
-StartsAt t scope attributes left (At id) = due t scope attributes id ≡ left
-StartsAt t scope attributes left Nowhere = left ≡ []
+-- the page behind a page starts at the last listed ID plus one, where what is left is due, or nothing is left
+abbrev pub StartsAt : Tables → (scope : ℕ) (attributes : List ℕ) (start : ℕ) (listed left : List Entry) → Start → Type 0
+StartsAt t scope attributes start listed left (At id) = (id ≡ nextId start listed) × (due t scope attributes id ≡ left)
+StartsAt t scope attributes start listed left Nowhere = left ≡ []
 
 -- ---- one page's entries, joined at the number of bytes received: all that are due, or as many as fit
 
 abbrev pub BringsPage : List Entry → (limit got : ℕ) (old : List ℕ) → Turn → (new : List ℕ) → Type 0
-BringsPage entries limit got old (Last n) new = (n ≡ got + length (bytesOf entries)) × (new ≡ put old got (bytesOf entries))
+BringsPage entries limit got old (Last n) new =
+    (n ≡ got + length (bytesOf entries)) × (new ≡ put old got (bytesOf entries)) × (fitting (limit - 4) entries ≡ length entries)
 BringsPage entries limit got old (More n) new =
-    let some = take (fitting (limit - 4) entries) entries in
-    (n ≡ got + length (bytesOf some)) × (got < n) × (new ≡ put old got (bytesOf some))
+    (n ≡ got + length (bytesOf (front limit entries))) × (got < n) × (new ≡ put old got (bytesOf (front limit entries)))
+    × (fitting (limit - 4) entries < length entries)
 
 pub record Page (entries : List Entry) (limit got : ℕ) (old : List ℕ) (v : Turn) (new : List ℕ) : Type 0 where
   pub is : BringsPage entries limit got old v new

@@ -2,11 +2,16 @@
 use model::Flags;
 ghost use mathlib.Core.Path.{_≡_};
 ghost use Prim.Native.Nat.{_<_};
-ghost use lib.ListN.{length};
+ghost use lib.ListN.{length, getD};
+ghost use Rattle.laws.specs.Put.{laid};
+ghost use Rattle.definition.specs.Reply.{room};
+ghost use Rattle.definition.specs.Fragment.{space};
+ghost use Rattle.definition.specs.Answer.{answer};
 ghost use Rattle.cip.specs.Writes.{Written};
+ghost use Rattle.continued.specs.Point3.{readRequest};
 ghost use Rattle.model.specs.Tables.{tablesOf, flagsOf};
-ghost use Rattle.pallet.specs.Whole.{chosen, firstStatus};
-ghost use Rattle.pallet.specs.Parts.{chosenBytes, Sendable, Joinable, Brings};
+ghost use Rattle.pallet.specs.Whole.{chosen, firstReply};
+ghost use Rattle.pallet.specs.Parts.{chosenBytes, lastOf, Sendable, Joinable, Brings};
 
 /// How many bytes are received after a reply, and whether more are due.
 pub enum Turn {
@@ -14,7 +19,7 @@ pub enum Turn {
     More(usize),
 }
 
-/// The general status of a reply to a read from the start.
+/// The general status of a reply to a read from the start; the reply stays in `buf`.
 pub fn first_status(
     structures: &[[u32; 10]],
     members: &[[u32; 9]],
@@ -32,7 +37,10 @@ pub fn first_status(
     buf: &mut [u8],
 ) -> u8
     requires { ⌜ Sendable (tablesOf (now structures) (now members) (now programs) (now tags) (now others) (now names) (now «tag_names») (now templates)) (now memory) (now path) limit (length (now buf)) ⌝ }
-    ensures { λ r. ⌜ (r ≡ firstStatus (tablesOf (now (structures .entry)) (now (members .entry)) (now (programs .entry)) (now (tags .entry)) (now (others .entry)) (now (names .entry)) (now («tag_names» .entry)) (now (templates .entry))) (flagsOf flags) (now (memory .entry)) (now (path .entry)) elements limit) × (now (memory .exit) ≡ now (memory .entry)) ⌝ }
+    ensures { λ r. let t = tablesOf (now (structures .entry)) (now (members .entry)) (now (programs .entry)) (now (tags .entry))
+        (now (others .entry)) (now (names .entry)) (now («tag_names» .entry)) (now (templates .entry)) in
+        let first = firstReply t (flagsOf flags) (now (memory .entry)) (now (path .entry)) elements limit in
+        ⌜ (r ≡ getD first 2 0) × (now (memory .exit) ≡ now (memory .entry)) × (now (buf .exit) ≡ laid (room limit) (now (buf .entry)) first) ⌝ }
 {
     crate::requests::send_read(
         structures,
@@ -75,7 +83,11 @@ fn join_part(
     got: usize,
 ) -> Turn
     requires { ⌜ Sendable (tablesOf (now structures) (now members) (now programs) (now tags) (now others) (now names) (now «tag_names») (now templates)) (now memory) (now path) limit (length (now buf)) × Joinable (tablesOf (now structures) (now members) (now programs) (now tags) (now others) (now names) (now «tag_names») (now templates)) (flagsOf flags) (now memory) (now path) elements limit header (length (now out)) × (got < length (chosenBytes (now memory) (chosen (tablesOf (now structures) (now members) (now programs) (now tags) (now others) (now names) (now «tag_names») (now templates)) (flagsOf flags) (now path) elements))) ⌝ }
-    ensures { λ r. ⌜ Brings (chosenBytes (now (memory .entry)) (chosen (tablesOf (now (structures .entry)) (now (members .entry)) (now (programs .entry)) (now (tags .entry)) (now (others .entry)) (now (names .entry)) (now («tag_names» .entry)) (now (templates .entry))) (flagsOf flags) (now (path .entry)) elements)) got (now (out .entry)) r (now (out .exit)) × (now (memory .exit) ≡ now (memory .entry)) ⌝ }
+    ensures { λ r. let t = tablesOf (now (structures .entry)) (now (members .entry)) (now (programs .entry)) (now (tags .entry))
+        (now (others .entry)) (now (names .entry)) (now («tag_names» .entry)) (now (templates .entry)) in
+        let selected = chosenBytes (now (memory .entry)) (chosen t (flagsOf flags) (now (path .entry)) elements) in
+        let sent = answer t (flagsOf flags) (now (memory .entry)) (readRequest (now (path .entry)) elements got) limit .reply in
+        ⌜ Brings (space header limit) selected got (now (out .entry)) r (now (out .exit)) × (now (memory .exit) ≡ now (memory .entry)) × (now (buf .exit) ≡ laid (room limit) (now (buf .entry)) sent) ⌝ }
 {
     let n = crate::requests::send_read(
         structures,
@@ -103,7 +115,7 @@ fn join_part(
     Turn::More(end)
 }
 
-/// Reads until nothing more is due.
+/// Reads until nothing more is due; the last reply stays in `buf`.
 pub fn join_all(
     structures: &[[u32; 10]],
     members: &[[u32; 9]],
@@ -123,7 +135,10 @@ pub fn join_all(
     header: usize,
 ) -> usize
     requires { ⌜ Sendable (tablesOf (now structures) (now members) (now programs) (now tags) (now others) (now names) (now «tag_names») (now templates)) (now memory) (now path) limit (length (now buf)) × Joinable (tablesOf (now structures) (now members) (now programs) (now tags) (now others) (now names) (now «tag_names») (now templates)) (flagsOf flags) (now memory) (now path) elements limit header (length (now out)) ⌝ }
-    ensures { λ r. ⌜ Written 0 (chosenBytes (now (memory .entry)) (chosen (tablesOf (now (structures .entry)) (now (members .entry)) (now (programs .entry)) (now (tags .entry)) (now (others .entry)) (now (names .entry)) (now («tag_names» .entry)) (now (templates .entry))) (flagsOf flags) (now (path .entry)) elements)) (now (out .entry)) r (now (out .exit)) × (now (memory .exit) ≡ now (memory .entry)) ⌝ }
+    ensures { λ r. let t = tablesOf (now (structures .entry)) (now (members .entry)) (now (programs .entry)) (now (tags .entry))
+        (now (others .entry)) (now (names .entry)) (now («tag_names» .entry)) (now (templates .entry)) in
+        let o = chosen t (flagsOf flags) (now (path .entry)) elements in
+        ⌜ Written 0 (chosenBytes (now (memory .entry)) o) (now (out .entry)) r (now (out .exit)) × (now (memory .exit) ≡ now (memory .entry)) × (now (buf .exit) ≡ laid (room limit) (now (buf .entry)) (lastOf (now (memory .entry)) limit o)) ⌝ }
 {
     let mut got = 0;
     loop {

@@ -12,7 +12,7 @@ use sizes::Size;
 ghost use mathlib.Core.Path.{_≡_};
 ghost use lib.ListN.{length};
 ghost use Rattle.model.specs.Tables.{tablesOf, flagsOf};
-ghost use Rattle.pallet.specs.Whole.{chosen, firstStatus, received, wholeOf, wholeRead};
+ghost use Rattle.pallet.specs.Whole.{chosen, firstReply, received, wholeOf, wholeRead};
 ghost use Rattle.pallet.specs.Parts.{Sendable};
 
 /// What a whole read or a whole list comes to.
@@ -51,7 +51,10 @@ fn read_sendable(
     out: &mut [u8],
 ) -> Whole
     requires { ⌜ Sendable (tablesOf (now structures) (now members) (now programs) (now tags) (now others) (now names) (now «tag_names») (now templates)) (now memory) (now path) limit (length (now buf)) ⌝ }
-    ensures { λ r. ⌜ (received r (now (out .exit)) ≡ wholeOf (chosen (tablesOf (now (structures .entry)) (now (members .entry)) (now (programs .entry)) (now (tags .entry)) (now (others .entry)) (now (names .entry)) (now («tag_names» .entry)) (now (templates .entry))) (flagsOf flags) (now (path .entry)) elements) (firstStatus (tablesOf (now (structures .entry)) (now (members .entry)) (now (programs .entry)) (now (tags .entry)) (now (others .entry)) (now (names .entry)) (now («tag_names» .entry)) (now (templates .entry))) (flagsOf flags) (now (memory .entry)) (now (path .entry)) elements limit) (now (memory .entry)) limit (now (out .entry))) × (now (memory .exit) ≡ now (memory .entry)) ⌝ }
+    ensures { λ r. let t = tablesOf (now (structures .entry)) (now (members .entry)) (now (programs .entry)) (now (tags .entry))
+        (now (others .entry)) (now (names .entry)) (now («tag_names» .entry)) (now (templates .entry)) in
+        let first = firstReply t (flagsOf flags) (now (memory .entry)) (now (path .entry)) elements limit in
+        ⌜ (received r (now (out .exit)) (now (buf .exit)) ≡ wholeOf (chosen t (flagsOf flags) (now (path .entry)) elements) first (now (memory .entry)) limit (now (buf .entry)) (now (out .entry))) × (now (memory .exit) ≡ now (memory .entry)) ⌝ }
 {
     match sizes::selected_size(
         structures,
@@ -115,7 +118,7 @@ fn read_sendable(
 }
 
 /// Reads all of what a path and an element count select into `out`: sends reads at the number of bytes
-/// received and joins their data until status 0, or says why not. `buf` is the reply buffer.
+/// received and joins their data until status 0, or says why not. `buf` is the reply buffer: the last reply stays in it.
 pub fn read_whole(
     structures: &[[u32; 10]],
     members: &[[u32; 9]],
@@ -133,7 +136,9 @@ pub fn read_whole(
     buf: &mut [u8],
     out: &mut [u8],
 ) -> Whole
-    ensures { λ r. ⌜ (received r (now (out .exit)) ≡ wholeRead (tablesOf (now (structures .entry)) (now (members .entry)) (now (programs .entry)) (now (tags .entry)) (now (others .entry)) (now (names .entry)) (now («tag_names» .entry)) (now (templates .entry))) (flagsOf flags) (now (memory .entry)) (now (path .entry)) elements limit (length (now (buf .entry))) (now (out .entry))) × (now (memory .exit) ≡ now (memory .entry)) ⌝ }
+    ensures { λ r. let t = tablesOf (now (structures .entry)) (now (members .entry)) (now (programs .entry)) (now (tags .entry))
+        (now (others .entry)) (now (names .entry)) (now («tag_names» .entry)) (now (templates .entry)) in
+        ⌜ (received r (now (out .exit)) (now (buf .exit)) ≡ wholeRead t (flagsOf flags) (now (memory .entry)) (now (path .entry)) elements limit (now (buf .entry)) (now (out .entry))) × (now (memory .exit) ≡ now (memory .entry)) ⌝ }
 {
     if !requests::is_sendable(path) {
         return Whole::Unsendable;

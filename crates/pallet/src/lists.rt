@@ -11,8 +11,7 @@ ghost use mathlib.Core.Path.{_≡_};
 ghost use Prim.Native.Nat.{_≤_};
 ghost use lib.ListN.{length};
 ghost use Rattle.model.specs.Tables.{tablesOf, flagsOf};
-ghost use Rattle.pallet.specs.Whole.{received};
-ghost use Rattle.pallet.specs.Lists.{entriesOf, firstPage, wholeOfList, wholeList};
+ghost use Rattle.pallet.specs.Lists.{entriesOf, firstPage, listed, wholeOfList, wholeList, lastListed, ListBuffer};
 ghost use Rattle.pallet.specs.Turns.{inScope, scopeBy, acceptedIn, askedBy, Askable, Granted};
 
 /// A scope: 0 is the controller's, a program's is its position plus one.
@@ -93,7 +92,11 @@ fn list_granted(
     n: usize,
 ) -> Whole
     requires { ⌜ Askable (tablesOf (now structures) (now members) (now programs) (now tags) (now others) (now names) (now «tag_names») (now templates)) (now memory) (now program) (now attributes) limit (length (now buf)) × Granted (tablesOf (now structures) (now members) (now programs) (now tags) (now others) (now names) (now «tag_names») (now templates)) (now program) (now attributes) scope n ⌝ }
-    ensures { λ r. ⌜ (received r (now (out .exit)) ≡ wholeOfList (entriesOf (tablesOf (now (structures .entry)) (now (members .entry)) (now (programs .entry)) (now (tags .entry)) (now (others .entry)) (now (names .entry)) (now («tag_names» .entry)) (now (templates .entry))) (now (program .entry)) (now (attributes .entry))) (firstPage (tablesOf (now (structures .entry)) (now (members .entry)) (now (programs .entry)) (now (tags .entry)) (now (others .entry)) (now (names .entry)) (now («tag_names» .entry)) (now (templates .entry))) (flagsOf flags) (now (memory .entry)) (now (program .entry)) (now (attributes .entry)) limit) limit (now (out .entry))) × (now (memory .exit) ≡ now (memory .entry)) ⌝ }
+    ensures { λ r. let t = tablesOf (now (structures .entry)) (now (members .entry)) (now (programs .entry)) (now (tags .entry))
+        (now (others .entry)) (now (names .entry)) (now («tag_names» .entry)) (now (templates .entry)) in
+        let o = entriesOf t (now (program .entry)) (now (attributes .entry)) in
+        let first = firstPage t (flagsOf flags) (now (memory .entry)) (now (program .entry)) (now (attributes .entry)) limit in
+        ⌜ (listed r (now (out .exit)) ≡ wholeOfList o first limit (now (out .entry))) × (now (memory .exit) ≡ now (memory .entry)) × ListBuffer limit first (lastListed limit o) (now (buf .entry)) r (now (buf .exit)) ⌝ }
 {
     if limit < HEADER {
         return Whole::TooNarrow;
@@ -155,7 +158,11 @@ fn list_askable(
     out: &mut [u8],
 ) -> Whole
     requires { ⌜ Askable (tablesOf (now structures) (now members) (now programs) (now tags) (now others) (now names) (now «tag_names») (now templates)) (now memory) (now program) (now attributes) limit (length (now buf)) ⌝ }
-    ensures { λ r. ⌜ (received r (now (out .exit)) ≡ wholeOfList (entriesOf (tablesOf (now (structures .entry)) (now (members .entry)) (now (programs .entry)) (now (tags .entry)) (now (others .entry)) (now (names .entry)) (now («tag_names» .entry)) (now (templates .entry))) (now (program .entry)) (now (attributes .entry))) (firstPage (tablesOf (now (structures .entry)) (now (members .entry)) (now (programs .entry)) (now (tags .entry)) (now (others .entry)) (now (names .entry)) (now («tag_names» .entry)) (now (templates .entry))) (flagsOf flags) (now (memory .entry)) (now (program .entry)) (now (attributes .entry)) limit) limit (now (out .entry))) × (now (memory .exit) ≡ now (memory .entry)) ⌝ }
+    ensures { λ r. let t = tablesOf (now (structures .entry)) (now (members .entry)) (now (programs .entry)) (now (tags .entry))
+        (now (others .entry)) (now (names .entry)) (now («tag_names» .entry)) (now (templates .entry)) in
+        let o = entriesOf t (now (program .entry)) (now (attributes .entry)) in
+        let first = firstPage t (flagsOf flags) (now (memory .entry)) (now (program .entry)) (now (attributes .entry)) limit in
+        ⌜ (listed r (now (out .exit)) ≡ wholeOfList o first limit (now (out .entry))) × (now (memory .exit) ≡ now (memory .entry)) × ListBuffer limit first (lastListed limit o) (now (buf .entry)) r (now (buf .exit)) ⌝ }
 {
     let Asked::Of(scope, n) = asked_of(programs, names, program, attributes) else {
         return Whole::Turned(pages::first_page(
@@ -198,7 +205,7 @@ fn list_askable(
 
 /// Lists all symbols of a scope into `out`: asks for pages, each from the last listed ID plus one, and joins their entries until
 /// status 0, or says why not. `program` is empty for the controller's scope, `attributes` is the request's data, and `buf` is the
-/// reply buffer.
+/// reply buffer: entries are measured in it before anything is sent, and the last reply stays in it.
 pub fn list_whole(
     structures: &[[u32; 10]],
     members: &[[u32; 9]],
@@ -216,7 +223,11 @@ pub fn list_whole(
     buf: &mut [u8],
     out: &mut [u8],
 ) -> Whole
-    ensures { λ r. ⌜ (received r (now (out .exit)) ≡ wholeList (tablesOf (now (structures .entry)) (now (members .entry)) (now (programs .entry)) (now (tags .entry)) (now (others .entry)) (now (names .entry)) (now («tag_names» .entry)) (now (templates .entry))) (flagsOf flags) (now (memory .entry)) (now (program .entry)) (now (attributes .entry)) limit (length (now (buf .entry))) (now (out .entry))) × (now (memory .exit) ≡ now (memory .entry)) ⌝ }
+    ensures { λ r. let t = tablesOf (now (structures .entry)) (now (members .entry)) (now (programs .entry)) (now (tags .entry))
+        (now (others .entry)) (now (names .entry)) (now («tag_names» .entry)) (now (templates .entry)) in
+        let o = entriesOf t (now (program .entry)) (now (attributes .entry)) in
+        let first = firstPage t (flagsOf flags) (now (memory .entry)) (now (program .entry)) (now (attributes .entry)) limit in
+        ⌜ (listed r (now (out .exit)) ≡ wholeList t (flagsOf flags) (now (memory .entry)) (now (program .entry)) (now (attributes .entry)) limit (length (now (buf .entry))) (now (out .entry))) × (now (memory .exit) ≡ now (memory .entry)) × ListBuffer limit first (lastListed limit o) (now (buf .entry)) r (now (buf .exit)) ⌝ }
 {
     if !pages::is_askable(program, attributes) {
         return Whole::Unsendable;

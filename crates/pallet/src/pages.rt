@@ -6,16 +6,17 @@ use model::Flags;
 ghost use mathlib.Core.Path.{_≡_};
 ghost use mathlib.Core.Bool.{true};
 ghost use Prim.Native.Nat.{_+_, _≤_};
-ghost use lib.ListN.{length, drop};
-ghost use Rattle.laws.specs.Put.{put};
+ghost use lib.ListN.{length, drop, getD};
+ghost use Rattle.laws.specs.Put.{put, laid};
 ghost use Rattle.definition.specs.Bytes.{numbers};
-ghost use Rattle.definition.specs.Page.{bytesOf};
+ghost use Rattle.definition.specs.Reply.{room};
+ghost use Rattle.definition.specs.Page.{bytesOf, pageReply};
 ghost use Rattle.definition.specs.Symbols.{due};
 ghost use Rattle.definition.specs.Answer.{answer};
 ghost use Rattle.cip.specs.Writes.{Written};
 ghost use Rattle.model.specs.Tables.{tablesOf, flagsOf};
 ghost use Rattle.services.specs.Answers.{Answers};
-ghost use Rattle.pallet.specs.Lists.{scopePath, listRequest, isAskable, firstPage, longest};
+ghost use Rattle.pallet.specs.Lists.{scopePath, listRequest, isAskable, firstPage, longest, lastPage};
 ghost use Rattle.pallet.specs.Turns.{Askable, Granted, Page};
 
 /// The service of a symbol page.
@@ -120,7 +121,7 @@ fn send_list(
     )
 }
 
-/// The general status of a page from ID 0 on.
+/// The general status of a page from ID 0 on; the reply stays in `buf`.
 pub fn first_page(
     structures: &[[u32; 10]],
     members: &[[u32; 9]],
@@ -138,7 +139,10 @@ pub fn first_page(
     buf: &mut [u8],
 ) -> u8
     requires { ⌜ Askable (tablesOf (now structures) (now members) (now programs) (now tags) (now others) (now names) (now «tag_names») (now templates)) (now memory) (now program) (now attributes) limit (length (now buf)) ⌝ }
-    ensures { λ r. ⌜ (r ≡ firstPage (tablesOf (now (structures .entry)) (now (members .entry)) (now (programs .entry)) (now (tags .entry)) (now (others .entry)) (now (names .entry)) (now («tag_names» .entry)) (now (templates .entry))) (flagsOf flags) (now (memory .entry)) (now (program .entry)) (now (attributes .entry)) limit) × (now (memory .exit) ≡ now (memory .entry)) ⌝ }
+    ensures { λ r. let t = tablesOf (now (structures .entry)) (now (members .entry)) (now (programs .entry)) (now (tags .entry))
+        (now (others .entry)) (now (names .entry)) (now («tag_names» .entry)) (now (templates .entry)) in
+        let first = firstPage t (flagsOf flags) (now (memory .entry)) (now (program .entry)) (now (attributes .entry)) limit in
+        ⌜ (r ≡ getD first 2 0) × (now (memory .exit) ≡ now (memory .entry)) × (now (buf .exit) ≡ laid (room limit) (now (buf .entry)) first) ⌝ }
 {
     send_list(
         structures,
@@ -183,7 +187,10 @@ fn join_page(
     got: usize,
 ) -> Turn
     requires { ⌜ Askable (tablesOf (now structures) (now members) (now programs) (now tags) (now others) (now names) (now «tag_names») (now templates)) (now memory) (now program) (now attributes) limit (length (now buf)) × Granted (tablesOf (now structures) (now members) (now programs) (now tags) (now others) (now names) (now «tag_names») (now templates)) (now program) (now attributes) scope n × (4 + longest (due (tablesOf (now structures) (now members) (now programs) (now tags) (now others) (now names) (now «tag_names») (now templates)) scope (numbers n (drop 2 (now attributes))) start) ≤ limit) × (got + length (bytesOf (due (tablesOf (now structures) (now members) (now programs) (now tags) (now others) (now names) (now «tag_names») (now templates)) scope (numbers n (drop 2 (now attributes))) start)) ≤ length (now out)) × (got ≤ 71302080) ⌝ }
-    ensures { λ r. ⌜ Page (due (tablesOf (now (structures .entry)) (now (members .entry)) (now (programs .entry)) (now (tags .entry)) (now (others .entry)) (now (names .entry)) (now («tag_names» .entry)) (now (templates .entry))) scope (numbers n (drop 2 (now (attributes .entry)))) start) limit got (now (out .entry)) r (now (out .exit)) × (now (memory .exit) ≡ now (memory .entry)) ⌝ }
+    ensures { λ r. let t = tablesOf (now (structures .entry)) (now (members .entry)) (now (programs .entry)) (now (tags .entry))
+        (now (others .entry)) (now (names .entry)) (now («tag_names» .entry)) (now (templates .entry)) in
+        let entries = due t scope (numbers n (drop 2 (now (attributes .entry)))) start in
+        ⌜ Page entries limit got (now (out .entry)) r (now (out .exit)) × (now (memory .exit) ≡ now (memory .entry)) × (now (buf .exit) ≡ laid (room limit) (now (buf .entry)) (pageReply 0x55 entries limit)) ⌝ }
 {
     let size = send_list(
         structures,
@@ -210,7 +217,7 @@ fn join_page(
     Turn::More(end)
 }
 
-/// Asks for pages until nothing more is due.
+/// Asks for pages until nothing more is due; the last reply stays in `buf`.
 pub fn join_pages(
     structures: &[[u32; 10]],
     members: &[[u32; 9]],
@@ -231,7 +238,10 @@ pub fn join_pages(
     n: usize,
 ) -> usize
     requires { ⌜ Askable (tablesOf (now structures) (now members) (now programs) (now tags) (now others) (now names) (now «tag_names») (now templates)) (now memory) (now program) (now attributes) limit (length (now buf)) × Granted (tablesOf (now structures) (now members) (now programs) (now tags) (now others) (now names) (now «tag_names») (now templates)) (now program) (now attributes) scope n × (4 + longest (due (tablesOf (now structures) (now members) (now programs) (now tags) (now others) (now names) (now «tag_names») (now templates)) scope (numbers n (drop 2 (now attributes))) 0) ≤ limit) × (length (bytesOf (due (tablesOf (now structures) (now members) (now programs) (now tags) (now others) (now names) (now «tag_names») (now templates)) scope (numbers n (drop 2 (now attributes))) 0)) ≤ length (now out)) ⌝ }
-    ensures { λ r. ⌜ Written 0 (bytesOf (due (tablesOf (now (structures .entry)) (now (members .entry)) (now (programs .entry)) (now (tags .entry)) (now (others .entry)) (now (names .entry)) (now («tag_names» .entry)) (now (templates .entry))) scope (numbers n (drop 2 (now (attributes .entry)))) 0)) (now (out .entry)) r (now (out .exit)) × (now (memory .exit) ≡ now (memory .entry)) ⌝ }
+    ensures { λ r. let t = tablesOf (now (structures .entry)) (now (members .entry)) (now (programs .entry)) (now (tags .entry))
+        (now (others .entry)) (now (names .entry)) (now («tag_names» .entry)) (now (templates .entry)) in
+        let entries = due t scope (numbers n (drop 2 (now (attributes .entry)))) 0 in
+        ⌜ Written 0 (bytesOf entries) (now (out .entry)) r (now (out .exit)) × (now (memory .exit) ≡ now (memory .entry)) × (now (buf .exit) ≡ laid (room limit) (now (buf .entry)) (pageReply 0x55 (lastPage limit entries) limit)) ⌝ }
 {
     let mut start = 0u32;
     let mut got = 0;

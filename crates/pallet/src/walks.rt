@@ -5,11 +5,13 @@ use model::least::Next;
 ghost use mathlib.Core.Path.{_≡_};
 ghost use Prim.Native.Nat.{_+_, _*_, _≤_};
 ghost use lib.ListN.{length, drop};
+ghost use Rattle.laws.specs.Put.{KeptFrom};
 ghost use Rattle.definition.specs.Bytes.{numbers};
 ghost use Rattle.definition.specs.Symbols.{due};
 ghost use Rattle.model.specs.Least.{nextIn};
 ghost use Rattle.listing.specs.Entries.{EachValid, SomeValid};
-ghost use Rattle.pallet.specs.Turns.{Measured, behind, startBy, StartsAt};
+ghost use Rattle.pallet.specs.Lists.{behind};
+ghost use Rattle.pallet.specs.Turns.{Measured, front, nextId, startBy, StartsAt};
 
 /// All bytes of the entries, each of which a page can bring; or one that no page can.
 pub enum Measure {
@@ -37,7 +39,7 @@ pub fn measure_all(
     buf: &mut [u8],
 ) -> Measure
     requires { ⌜ SomeValid (now structures) (now tags) (now others) (now names) (now «tag_names») × (2 + 2 * n ≤ length (now body)) × (n ≤ 65535) × (4 ≤ limit) × (limit ≤ 65535) × (limit ≤ length (now buf)) ⌝ }
-    ensures { λ r. ⌜ EachValid (now (structures .entry)) (now (tags .entry)) (now (others .entry)) (now (names .entry)) (now («tag_names» .entry)) (λ t. Measured (due t scope (numbers n (drop 2 (now (body .entry)))) 0) limit r) ⌝ }
+    ensures { λ r. ⌜ EachValid (now (structures .entry)) (now (tags .entry)) (now (others .entry)) (now (names .entry)) (now («tag_names» .entry)) (λ t. Measured (due t scope (numbers n (drop 2 (now (body .entry)))) 0) limit r) × KeptFrom limit (now (buf .entry)) (now (buf .exit)) ⌝ }
 {
     let mut total = 0;
     let mut bound = 0u64;
@@ -88,7 +90,8 @@ fn next_bound(
     buf: &mut [u8],
 ) -> u64
     requires { ⌜ SomeValid (now structures) (now tags) (now others) (now names) (now «tag_names») × (2 + 2 * n ≤ length (now body)) × (n ≤ 65535) × (4 ≤ size) × (size ≤ length (now buf)) ⌝ }
-    ensures { λ r. ⌜ EachValid (now (structures .entry)) (now (tags .entry)) (now (others .entry)) (now (names .entry)) (now («tag_names» .entry)) (λ t. due t scope (numbers n (drop 2 (now (body .entry)))) r ≡ behind size (due t scope (numbers n (drop 2 (now (body .entry)))) start)) ⌝ }
+    ensures { λ r. let list = numbers n (drop 2 (now (body .entry))) in
+        ⌜ EachValid (now (structures .entry)) (now (tags .entry)) (now (others .entry)) (now (names .entry)) (now («tag_names» .entry)) (λ t. (r ≡ nextId start (front size (due t scope list start))) × (due t scope list r ≡ behind size (due t scope list start))) × KeptFrom size (now (buf .entry)) (now (buf .exit)) ⌝ }
 {
     let mut used = HEADER;
     let mut bound = start as u64;
@@ -164,7 +167,8 @@ pub fn next_start(
     buf: &mut [u8],
 ) -> Start
     requires { ⌜ SomeValid (now structures) (now tags) (now others) (now names) (now «tag_names») × (2 + 2 * n ≤ length (now body)) × (n ≤ 65535) × (4 ≤ size) × (size ≤ length (now buf)) ⌝ }
-    ensures { λ r. ⌜ EachValid (now (structures .entry)) (now (tags .entry)) (now (others .entry)) (now (names .entry)) (now («tag_names» .entry)) (λ t. StartsAt t scope (numbers n (drop 2 (now (body .entry)))) (behind size (due t scope (numbers n (drop 2 (now (body .entry)))) start)) r) ⌝ }
+    ensures { λ r. let list = numbers n (drop 2 (now (body .entry))) in
+        ⌜ EachValid (now (structures .entry)) (now (tags .entry)) (now (others .entry)) (now (names .entry)) (now («tag_names» .entry)) (λ t. StartsAt t scope list start (front size (due t scope list start)) (behind size (due t scope list start)) r) × KeptFrom size (now (buf .entry)) (now (buf .exit)) ⌝ }
 {
     let bound = next_bound(
         structures,

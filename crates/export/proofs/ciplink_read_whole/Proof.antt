@@ -4,7 +4,7 @@ use Rattle.export.proofs.ciplink_read_whole.Statement.{statement}
 use Rattle.export.proofs.ciplink_read_whole.Tie as tie
 
 returns : tie.Need-returns
-returns c = (whole-told _ _ _ (c .before .before .before .before .before .before .before .before .before .before .before .flags-of .ensures) _ _ _ _ _ _ _ _ _ (c .before .before .before .before .before .before .before .read-whole .ensures .0) (c .whole-code .ensures), c .before .before .before .before .before .before .before .read-whole .ensures .1)
+returns c = (whole-told _ _ _ (c .before .before .before .before .before .before .before .before .before .before .before .flags-of .ensures) _ _ _ _ _ _ _ _ _ _ (c .before .before .before .before .before .before .before .read-whole .ensures .0) (c .whole-code .ensures), c .before .before .before .before .before .before .before .read-whole .ensures .1)
 
 pub ciplink-read-whole-spec : {M : Type 1} → statement M
 ciplink-read-whole-spec =

@@ -7,7 +7,7 @@ asked-of-requires : tie.Need-asked-of-requires
 asked-of-requires c κs = few-scopes _ _ (c .before .before .before .before .before .before .before .before .pre .tables)
 
 returns : tie.Need-returns
-returns c = (list-turned _ _ (asked-nothing _ _ _ (c .before .before .before .before .before .before .before .before .before .asked-of .ensures) (c .before .before .before .before .before .before .before .enum-told .given .1)) (c .before .before .before .before .first-page .ensures .0), c .before .before .before .before .first-page .ensures .1)
+returns c = (list-turned _ _ _ (asked-nothing _ _ _ (c .before .before .before .before .before .before .before .before .before .asked-of .ensures) (c .before .before .before .before .before .before .before .enum-told .given .1)) (c .before .before .before .before .first-page .ensures .0), c .before .before .before .before .first-page .ensures .1, c .before .before .before .before .first-page .ensures .2)
 
 list-granted-requires : tie.Need-list-granted-requires
 list-granted-requires c κs = (c .before .before .before .before .before .before .before .before .before .before .before .before .before .before .before .pre, asked-granted _ _ _ (c .before .before .before .before .before .before .asked-of .ensures) (c .before .before .before .before .scope .given .1))

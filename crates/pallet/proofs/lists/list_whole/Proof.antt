@@ -13,30 +13,30 @@ use Rattle.pallet.proofs.lists.list_whole.Tie as tie
 
 returns : tie.Need-returns
 unfolding wholeList
-returns c = let s = ap not (c .before .is-askable .ensures) in (search (chain, by-call), refl)
+returns c = let s = ap not (c .before .is-askable .ensures) in (search (chain, by-call), refl, refl)
 
 returns-2 : tie.Need-returns-2
 unfolding wholeList
-returns-2 c = let s = ap not (c .before .before .is-askable .ensures) in (search (chain, by-call), refl)
+returns-2 c = let s = ap not (c .before .before .is-askable .ensures) in (search (chain, by-call), refl, refl)
 
 returns-3 : tie.Need-returns-3
 unfolding wholeList
 returns-3 c = let s = ap not (c .before .before .before .before .is-askable .ensures) in
     let b = lt-ltb (length (c .before .before .before .before .before .before .before .before .before .before .before .before .before .args .buf .now)) (room (c .before .before .before .before .before .before .before .before .before .before .before .before .before .args .limit)) (omega (arith, c .before .room-of .ensures, c .if3 .taken)) in
-    (search (chain, by-call), refl)
+    (search (chain, by-call), refl, refl)
 
 returns-4 : tie.Need-returns-4
 unfolding wholeList
 returns-4 c = let s = ap not (c .before .before .before .before .before .before .before .is-askable .ensures) in
     let b = le-ltb (length (c .before .before .before .before .before .before .before .before .before .before .before .before .before .before .before .before .args .buf .now)) (room (c .before .before .before .before .before .before .before .before .before .before .before .before .before .before .before .before .args .limit)) (omega (arith, c .before .before .before .before .room-of .ensures, c .before .before .before .if3 .left)) in
     let v = ap not (c .before .valid .ensures) in
-    (search (chain, by-call), refl)
+    (search (chain, by-call), refl, refl)
 
 list-askable-requires : tie.Need-list-askable-requires
 list-askable-requires c κs = record { askable = sym (c .before .before .before .before .before .before .before .before .before .before .is-askable .ensures) ∙ not-false _ (c .before .before .before .before .before .before .before .before .before .if1 .left); limit-fits = c .before .before .before .before .before .before .before .before .if2 .left; has-room = omega (arith, c .before .before .before .before .before .before .before .room-of .ensures, c .before .before .before .before .before .before .if3 .left); tables = sym (c .before .before .before .before .valid .ensures) ∙ not-false _ (c .before .before .before .if4 .left) }
 
 returns-5 : tie.Need-returns-5
-returns-5 c = (list-entered _ _ _ (record { askable = sym (c .before .before .before .before .before .before .before .before .before .before .before .before .before .before .before .before .before .is-askable .ensures) ∙ not-false _ (c .before .before .before .before .before .before .before .before .before .before .before .before .before .before .before .before .if1 .left); limit-fits = c .before .before .before .before .before .before .before .before .before .before .before .before .before .before .before .if2 .left; has-room = omega (arith, c .before .before .before .before .before .before .before .before .before .before .before .before .before .before .room-of .ensures, c .before .before .before .before .before .before .before .before .before .before .before .before .before .if3 .left); tables = sym (c .before .before .before .before .before .before .before .before .before .before .before .valid .ensures) ∙ not-false _ (c .before .before .before .before .before .before .before .before .before .before .if4 .left) }) (c .before .before .before .before .before .before .list-askable .ensures .0), c .before .before .before .before .before .before .list-askable .ensures .1)
+returns-5 c = (list-entered _ _ _ (record { askable = sym (c .before .before .before .before .before .before .before .before .before .before .before .before .before .before .before .before .before .is-askable .ensures) ∙ not-false _ (c .before .before .before .before .before .before .before .before .before .before .before .before .before .before .before .before .if1 .left); limit-fits = c .before .before .before .before .before .before .before .before .before .before .before .before .before .before .before .if2 .left; has-room = omega (arith, c .before .before .before .before .before .before .before .before .before .before .before .before .before .before .room-of .ensures, c .before .before .before .before .before .before .before .before .before .before .before .before .before .if3 .left); tables = sym (c .before .before .before .before .before .before .before .before .before .before .before .valid .ensures) ∙ not-false _ (c .before .before .before .before .before .before .before .before .before .before .if4 .left) }) (c .before .before .before .before .before .before .list-askable .ensures .0), c .before .before .before .before .before .before .list-askable .ensures .1, c .before .before .before .before .before .before .list-askable .ensures .2)
 
 pub list-whole-spec : {M : Type 1} → statement M
 list-whole-spec =

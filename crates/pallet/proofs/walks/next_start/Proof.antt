@@ -4,7 +4,7 @@ use Rattle.pallet.proofs.walks.next_start.Statement.{statement}
 use Rattle.pallet.proofs.walks.next_start.Tie as tie
 
 returns : tie.Need-returns
-returns c = λ m p z y v. starts-next _ _ _ _ _ (c .before .before .before .next-bound .ensures m p z y v) y v _ (c .start-from .ensures)
+returns c = (λ m p z y v. starts-next _ _ _ _ _ _ _ (c .before .before .before .next-bound .ensures .0 m p z y v) y v _ (c .start-from .ensures), c .before .before .before .next-bound .ensures .1)
 
 pub next-start-spec : {M : Type 1} → statement M
 next-start-spec = tie.close (tie.spec (λ c κs. search needs) (λ c κs. search needs) (λ c. search needs) returns)
