@@ -24,7 +24,7 @@ use Rattle.tags.proofs.Reading.{ask-by}
 use Rattle.pallet.specs.declared.Whole.the-variants.{Joined, TooShort, TooNarrow, Turned}
 use Rattle.pallet.specs.declared.sizes.Size.{Size}
 use Rattle.pallet.specs.declared.sizes.Size.the-variants.{Of, Nothing}
-use Rattle.pallet.specs.Whole.{chosen, Received, received, wholeOf}
+use Rattle.pallet.specs.Whole.{chosen, Received, received, firstReply, wholeOf, wholeRead}
 use Rattle.pallet.specs.Parts.{sizedOf, chosenBytes, lastOf, Sendable, Joinable}
 use Rattle.pallet.proofs.Sending.{readable}
 
@@ -107,3 +107,12 @@ module _ (memory : List ℕ) (o : Option Selection) (first : List ℕ) (limit : 
             let b : n ≡ length (selectedBytes s memory) = cc q in
             let c = le-ltb limit (5 + length (s .header)) (omega arith) in
             rw (l, w .buffer-is, w .length-is, c, le-ltb (length out) (length (selectedBytes s memory)) (omega arith)) refl
+
+-- a sendable read is not turned away before anything is sent
+pub read-entered : {t : Tables} (f : Flags) {memory path : List ℕ} (elements : ℕ) {limit : ℕ} (buffer out : List ℕ) (v : Received)
+    → Sendable t memory path limit (length buffer)
+    → v ≡ wholeOf (chosen t f path elements) (firstReply t f memory path elements limit) memory limit buffer out
+    → v ≡ wholeRead t f memory path elements limit buffer out
+unfolding wholeRead
+read-entered f elements {limit} buffer out v a e =
+    rw (a .sendable, le-ltb 65535 limit (a .limit-fits), le-ltb (length buffer) (room limit) (a .has-room), a .tables) e

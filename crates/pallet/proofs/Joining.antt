@@ -202,9 +202,11 @@ module _ {t : Tables} {f : Flags} {m path : List ℕ} {elements limit header roo
   all = chosenBytes m (chosen t f path elements)
 
   pub reply-last : elements < 65536 → got < length all → length all ≤ got + space header limit
-      → lastChunk (space header limit) (drop got all) ≡ lastChunk (space header limit) all → new ≡ laid (room limit) start (lastOf m limit (chosen t f path elements))
+      → lastChunk (space header limit) (drop got all) ≡ lastChunk (space header limit) all
+      → new ≡ laid (room limit) start (lastOf m limit (chosen t f path elements))
   reply-last count due fits here =
-      let e : drop got all ≡ lastChunk (space header limit) all = sym (last-done (space header limit) (drop got all) (omega (arith, length-drop got all))) ∙ here in
+      let done = last-done (space header limit) (drop got all) (omega (arith, length-drop got all)) in
+      let e : drop got all ≡ lastChunk (space header limit) all = sym done ∙ here in
       let q = rw (chosen-bytes a j, j .header-is) at e in
       lies ∙ laid-drop (room limit) old start _ (kept .0)
       ∙ ap (λ (x : List ℕ). laid (room limit) start (answer t f x (readRequest path elements got) limit .reply)) same

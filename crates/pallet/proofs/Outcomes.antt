@@ -37,7 +37,8 @@ use Rattle.pallet.specs.declared.lists.Asked.{Asked}
 use Rattle.pallet.specs.declared.lists.Asked.the-variants as asked
 use Rattle.pallet.specs.declared.walks.Measure.{Measure}
 use Rattle.pallet.specs.declared.walks.Measure.the-variants.{Total, Narrow}
-use Rattle.pallet.specs.Lists.{scopeNamed, scopeOf, entriesIn, entriesOf, firstPage, Listed, listed, longest, wholeOfList, wholeList, lastPage, lastListed}
+use Rattle.pallet.specs.Lists.{scopeNamed, scopeOf, entriesIn, entriesOf, firstPage, Listed, listed, longest, wholeOfList, wholeList}
+use Rattle.pallet.specs.Lists.{lastPage, lastListed}
 use Rattle.pallet.specs.Turns.{inScope, scopeBy, acceptedBy, acceptedIn, askedBy, Askable, Granted, Measured}
 
 -- ---- the scope
@@ -203,7 +204,8 @@ module _ {t : Tables} {program attributes : List ℕ} {scope n : ℕ} (g : Grant
 
   -- the entries were measured in the buffer before the pages were laid into it
   pub list-laid : (limit : ℕ) (old measured new : List ℕ) → KeptFrom limit old measured
-      → new ≡ laid (room limit) measured (pageReply 0x55 (lastPage limit entries) limit) → new ≡ laid (room limit) old (lastListed limit (entriesOf t program attributes))
+      → new ≡ laid (room limit) measured (pageReply 0x55 (lastPage limit entries) limit)
+      → new ≡ laid (room limit) old (lastListed limit (entriesOf t program attributes))
   list-laid limit old measured new k e =
       rw entries-are (e ∙ laid-drop (room limit) measured old _ (measured-kept limit old measured k .0))
 
@@ -234,7 +236,8 @@ module _ {t : Tables} {program attributes : List ℕ} {scope n : ℕ} (g : Grant
         unfolding wholeOfList
         list-joined h w =
             let a = list-total entries limit measured q in
-            rw (entries-are, w .buffer-is, w .length-is, le-ltb limit (4 + longest entries) (a .1), le-ltb (length out) (length (bytesOf entries)) (omega (arith, a .0))) refl
+            let fits = le-ltb (length out) (length (bytesOf entries)) (omega (arith, a .0)) in
+            rw (entries-are, w .buffer-is, w .length-is, le-ltb limit (4 + longest entries) (a .1), fits) refl
 
 -- an askable list is not turned away before anything is asked for
 module _ {t : Tables} (f : Flags) {memory program attributes : List ℕ} {limit buffer : ℕ} (out : List ℕ) (v : Listed)

@@ -186,7 +186,9 @@ module _ {t : Tables} (f : Flags) {m program attributes : List ℕ} {limit buffe
     turn-last = page-last entries limit size old new room-for size-is lies got end out filled joins ends
 
     pub turn-more : getD new 2 0 ≢ 0 → Page entries limit got out (More end) filled
-    turn-more = page-more entries limit size old new room-for size-is lies got end out filled joins ends (due-some t scope (numbers n (drop 2 attributes)) start)
+    turn-more =
+        page-more entries limit size old new room-for size-is lies got end out filled joins ends
+        (due-some t scope (numbers n (drop 2 attributes)) start)
 
 -- ---- the last page: one page more, and the last one
 
@@ -240,7 +242,8 @@ module _ {all left : List Entry} {limit got : ℕ} {start out : List ℕ} (j : J
         (b .1, omega (arith, b .0, joins-fit, bytes-front (fitting (limit - 4) left) left))
 
     -- behind a page of so many bytes is what the limit leaves due
-    pub joins-behind : (n size : ℕ) → All (λ e. 0 < length (e .bytes)) left → v ≡ More n → size ≡ 4 + (n - got) → (behind size left ≡ behind limit left) × (size ≤ limit)
+    pub joins-behind : (n size : ℕ) → All (λ e. 0 < length (e .bytes)) left → v ≡ More n → size ≡ 4 + (n - got)
+        → (behind size left ≡ behind limit left) × (size ≤ limit)
     joins-behind n size positive e q =
         let b = brought (More n) e in
         let k = fitting (limit - 4) left in
@@ -261,7 +264,8 @@ module _ {all left : List Entry} {limit got : ℕ} {start out : List ℕ} (j : J
         let k = fitting (limit - 4) left in
         record {
           passed = j .passed ++ bytesOf (take k left);
-          whole = rw q (j .whole ∙ ap (λ (l : List ℕ). j .passed ++ l) (bytes-split k left) ∙ sym (append-assoc (j .passed) (bytesOf (take k left)) (bytesOf (drop k left))));
+          whole = rw q (j .whole ∙ ap (λ (l : List ℕ). j .passed ++ l) (bytes-split k left)
+              ∙ sym (append-assoc (j .passed) (bytesOf (take k left)) (bytesOf (drop k left))));
           got-is = omega (arith, b .0, j .got-is, length-append (j .passed) (bytesOf (take k left)));
           out-is = joined-more (bytesOf (take k left)) (b .2) (bytes-front k left);
           room-for = rw q (omega (arith, j .room-for, longest-drop k left));
@@ -290,7 +294,8 @@ module _ {all left : List Entry} {limit got : ℕ} {start out : List ℕ} (j : J
           let same : left ≡ lastPage limit all = sym (last-done limit left (brought (Last n) e .2)) ∙ j .ends in
           lies ∙ laid-drop (room limit) old first _ (kept .0) ∙ ap (λ (l : List Entry). laid (room limit) first (pageReply 0x55 l limit)) same
 
-module _ (t : Tables) (scope : ℕ) (attributes : List ℕ) (start : ℕ) (listed left : List Entry) (s : Start) (at : StartsAt t scope attributes start listed left s) where
+module _ (t : Tables) (scope : ℕ) (attributes : List ℕ) (start : ℕ) (listed left : List Entry) (s : Start)
+    (at : StartsAt t scope attributes start listed left s) where
   pub starts-known : (id : ℕ) → s ≡ At id → due t scope attributes id ≡ left
   starts-known id q = let a : StartsAt t scope attributes start listed left (At id) = rw q at at in a .1
 

@@ -73,7 +73,8 @@ pub measure-none : (limit : ℕ) (all : List Entry) → length all ≤ 1088 → 
 measure-none limit all h = record { total-is = omega arith; not-longer = omega arith; room = omega arith; few = omega arith }
 
 module _ (limit : ℕ) (all left : List Entry) (total : ℕ) (m : Measuring limit all left total) where
-  measure-on : (e : Entry) (es : List Entry) (u : ℕ) → left ≡ e ∷ es → u ≡ 4 + length (e .bytes) → u ≤ limit → limit ≤ 65535 → Measuring limit all es (total + (u - 4))
+  measure-on : (e : Entry) (es : List Entry) (u : ℕ) → left ≡ e ∷ es → u ≡ 4 + length (e .bytes) → u ≤ limit → limit ≤ 65535
+      → Measuring limit all es (total + (u - 4))
   unfolding bytesOf longest
   measure-on e es u d k h l =
       let a = rw d at (m .total-is) in
@@ -193,7 +194,8 @@ step-kept t scope attributes limit used bound a old s new k l (more e i d u h p)
 step-kept t scope attributes limit used bound a old s new k l (full e es d h p) = rw p k
 step-kept t scope attributes limit used bound a old s new k l (done d p) = rw p k
 
-pub walk-kept : {structures tags others : List Row} {names tagNames : List ℕ} {scope : ℕ} {attributes : List ℕ} {limit used bound : ℕ} (a : List ℕ) {old new : List ℕ} {s : Step}
+pub walk-kept : {structures tags others : List Row} {names tagNames : List ℕ} {scope : ℕ} {attributes : List ℕ} {limit used bound : ℕ}
+    (a : List ℕ) {old new : List ℕ} {s : Step}
     → SomeValid structures tags others names tagNames → KeptFrom limit a old → limit ≤ length a
     → EachValid structures tags others names tagNames (λ t. Stepped t scope attributes limit used bound old s new) → KeptFrom limit a new
 walk-kept a w k l each = step-kept _ _ _ _ _ _ _ _ _ _ k (omega (arith, k .1)) (each (w .members) (w .programs) (w .templates) (w .memory) (w .ok))

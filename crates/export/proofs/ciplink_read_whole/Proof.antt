@@ -1,10 +1,16 @@
+-- The whole read's outcome is told as its number; the buffers are as it leaves them.
 use Rattle.export.proofs.Telling.{whole-told}
 use borrow.Author.Needs.{needs}
 use Rattle.export.proofs.ciplink_read_whole.Statement.{statement}
 use Rattle.export.proofs.ciplink_read_whole.Tie as tie
 
 returns : tie.Need-returns
-returns c = (whole-told _ _ _ (c .before .before .before .before .before .before .before .before .before .before .before .flags-of .ensures) _ _ _ _ _ _ _ _ _ _ (c .before .before .before .before .before .before .before .read-whole .ensures .0) (c .whole-code .ensures), c .before .before .before .before .before .before .before .read-whole .ensures .1)
+returns c =
+    let back = c .before .before .before .before .before .before .before in let read-whole = back .read-whole in
+    let flags-of = back .before .before .before .before .flags-of in (
+      whole-told _ _ _ (flags-of .ensures) _ _ _ _ _ _ _ _ _ _ (read-whole .ensures .0) (c .whole-code .ensures),
+      read-whole .ensures .1,
+    )
 
 pub ciplink-read-whole-spec : {M : Type 1} → statement M
 ciplink-read-whole-spec =

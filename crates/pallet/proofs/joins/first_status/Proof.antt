@@ -1,10 +1,13 @@
+-- The status is the third byte of the reply that lies in the buffer; a read changes no memory.
 use Rattle.pallet.proofs.Joining.{status-first}
 use borrow.Author.Needs.{needs}
 use Rattle.pallet.proofs.joins.first_status.Statement.{statement}
 use Rattle.pallet.proofs.joins.first_status.Tie as tie
 
 returns : tie.Need-returns
-returns c = status-first _ _ _ _ _ _ _ _ _ _ (c .before .before .before .before .before .send-read .ensures)
+returns c =
+    let send-read = c .before .before .before .before .before .send-read in
+    status-first _ _ _ _ _ _ _ _ _ _ (send-read .ensures)
 
 pub first-status-spec : {M : Type 1} → statement M
 first-status-spec =

@@ -1,7 +1,9 @@
+-- What is joined are the first of the bytes selected; the rest ends with the same chunk, and each reply is laid over the one before it.
 use mathlib.Core.Path.{ap, _≡_, refl, _∙_}
 use mathlib.Core.List.{List}
 use Prim.Native.Nat.{ℕ, _-_, _<_}
-use Rattle.pallet.proofs.Joining.{chosen-same, chosen-some, chosen-fits, joined-none, reply-over, reply-last, turn-ready, turn-more, turn-last, last-fits, chunk-on}
+use Rattle.pallet.proofs.Joining.{chosen-same, chosen-some, chosen-fits, joined-none, reply-over, reply-last}
+use Rattle.pallet.proofs.Joining.{turn-ready, turn-more, turn-last, last-fits, chunk-on}
 use native.Mathlib.Omega.{arith}
 use lib.ListN.{length, take, drop}
 use Rattle.laws.specs.Put.{put, KeptFrom}
@@ -25,29 +27,74 @@ abbrev μ-loop : tie.MeasureT-loop
     length (chosenBytes memory₀ (chosen (tablesOf structures members programs tags others names tag-names templates) (flagsOf flags) path elements)) - got
 
 loop-holds : tie.Need-loop-holds Inv-loop μ-loop
-loop-holds c = (refl, chosen-some (c .before .before .before .before .before .before .before .pre .0) (c .before .before .before .before .before .before .before .pre .1) (c .before .before .before .before .before .before .before .fits .elements .fits), joined-none _, refl, (refl, refl), refl)
+loop-holds c =
+    let start = c .before .before .before .before .before .before .before in (
+      refl,
+      chosen-some (start .pre .0) (start .pre .1) (start .fits .elements .fits),
+      joined-none _,
+      refl,
+      (refl, refl),
+      refl,
+    )
 
 join-part-requires : tie.Need-join-part-requires Inv-loop μ-loop
-join-part-requires c κs = turn-ready _ _ _ _ (c .before .before .before .before .before .before .before .before .before .before .before .pre .0) (c .before .before .before .before .before .before .before .before .before .before .before .pre .1) (c .before .before .before .loop .inv .0) (c .before .before .before .loop .inv .4 .1) (c .before .before .before .loop .inv .3) (c .before .before .before .loop .inv .1)
+join-part-requires c κs =
+    let loop = c .before .before .before .loop in
+    let pre = c .before .before .before .before .before .before .before .before .before .before .before .pre in
+    turn-ready _ _ _ _ (pre .0) (pre .1) (loop .inv .0) (loop .inv .4 .1) (loop .inv .3) (loop .inv .1)
 
 loop-less : tie.Need-loop-less Inv-loop μ-loop
-loop-less c = let b = turn-more _ (chosen-fits (c .before .before .before .before .before .before .before .before .before .before .before .before .before .before .before .before .before .before .before .before .before .pre .0) (c .before .before .before .before .before .before .before .before .before .before .before .before .before .before .before .before .before .before .before .before .before .pre .1)) (chosen-same (c .before .before .before .before .before .before .before .before .before .before .before .before .before .before .before .before .before .before .before .before .before .pre .0) (c .before .before .before .before .before .before .before .before .before .before .before .before .before .before .before .before .before .before .before .before .before .pre .1) (c .before .before .before .before .before .before .before .before .before .before .before .before .before .loop .inv .0)) (c .before .before .before .before .before .before .before .before .before .before .before .before .before .loop .inv .2) (c .before .before .before .before .before .before .before .before .before .before .before .before .before .loop .inv .1) (c .before .before .before .before .before .before .before .before .before .join-part .ensures .0) _ (c .before .n .given .1) in omega (arith, b .0, b .1)
+loop-less c =
+    let b = (let back = c .before .before .before .before .before .before .before .before .before in
+    let join-part = back .join-part in
+    let back = back .before .before .before .before in let loop = back .loop in
+    let pre = back .before .before .before .before .before .before .before .before .pre in
+    turn-more _ (chosen-fits (pre .0) (pre .1)) (chosen-same (pre .0) (pre .1) (loop .inv .0)) (loop .inv .2)
+    (loop .inv .1) (join-part .ensures .0) _ (c .before .n .given .1)) in
+    omega (arith, b .0, b .1)
 
 loop-again : tie.Need-loop-again Inv-loop μ-loop
 loop-again c =
-    let b = turn-more _ (chosen-fits (c .before .before .before .before .before .before .before .before .before .before .before .before .before .before .before .before .before .before .before .before .before .pre .0) (c .before .before .before .before .before .before .before .before .before .before .before .before .before .before .before .before .before .before .before .before .before .pre .1)) (chosen-same (c .before .before .before .before .before .before .before .before .before .before .before .before .before .before .before .before .before .before .before .before .before .pre .0) (c .before .before .before .before .before .before .before .before .before .before .before .before .before .before .before .before .before .before .before .before .before .pre .1) (c .before .before .before .before .before .before .before .before .before .before .before .before .before .loop .inv .0)) (c .before .before .before .before .before .before .before .before .before .before .before .before .before .loop .inv .2) (c .before .before .before .before .before .before .before .before .before .before .before .before .before .loop .inv .1) (c .before .before .before .before .before .before .before .before .before .join-part .ensures .0) _ (c .before .n .given .1) in
-    let on = chunk-on _ (chosen-fits (c .before .before .before .before .before .before .before .before .before .before .before .before .before .before .before .before .before .before .before .before .before .pre .0) (c .before .before .before .before .before .before .before .before .before .before .before .before .before .before .before .before .before .before .before .before .before .pre .1)) (chosen-same (c .before .before .before .before .before .before .before .before .before .before .before .before .before .before .before .before .before .before .before .before .before .pre .0) (c .before .before .before .before .before .before .before .before .before .before .before .before .before .before .before .before .before .before .before .before .before .pre .1) (c .before .before .before .before .before .before .before .before .before .before .before .before .before .loop .inv .0)) (c .before .before .before .before .before .before .before .before .before .before .before .before .before .loop .inv .2) (c .before .before .before .before .before .before .before .before .before .before .before .before .before .loop .inv .1) (c .before .before .before .before .before .before .before .before .before .join-part .ensures .0) _ (c .before .n .given .1) (omega (arith, c .before .before .before .before .before .before .before .before .before .before .before .before .before .before .before .before .before .before .before .before .before .pre .1 .some-room)) in
-    (c .before .before .before .before .before .before .before .before .before .join-part .ensures .1 ∙ c .before .before .before .before .before .before .before .before .before .before .before .before .before .loop .inv .0, b .1, b .2, omega (arith, c .before .before .before .before .before .before .before .before .before .join-part .kept, c .before .before .before .before .before .before .before .before .before .before .before .before .before .loop .inv .3), reply-over _ _ _ (c .before .before .before .before .before .before .before .before .before .before .before .before .before .before .before .before .before .before .before .before .before .pre .0) (c .before .before .before .before .before .before .before .before .before .before .before .before .before .before .before .before .before .before .before .before .before .pre .1) (c .before .before .before .before .before .before .before .before .before .before .before .before .before .loop .inv .0) _ (c .before .before .before .before .before .before .before .before .before .before .before .before .before .loop .inv .4) (c .before .before .before .before .before .before .before .before .before .join-part .ensures .2), on ∙ c .before .before .before .before .before .before .before .before .before .before .before .before .before .loop .inv .5)
+    let n = c .before .n in
+    let join-part = c .before .before .before .before .before .before .before .before .before .join-part in
+    let loop = c .before .before .before .before .before .before .before .before .before .before .before .before .before
+    .loop in
+    let pre = c .before .before .before .before .before .before .before .before .before .before .before .before .before
+    .before .before .before .before .before .before .before .before .pre in
+    let b = turn-more _ (chosen-fits (pre .0) (pre .1)) (chosen-same (pre .0) (pre .1) (loop .inv .0)) (loop .inv .2)
+    (loop .inv .1) (join-part .ensures .0) _ (n .given .1) in
+    let on = chunk-on _ (chosen-fits (pre .0) (pre .1)) (chosen-same (pre .0) (pre .1) (loop .inv .0)) (loop .inv .2)
+    (loop .inv .1) (join-part .ensures .0) _ (n .given .1) (omega (arith, pre .1 .some-room)) in (
+      join-part .ensures .1 ∙ loop .inv .0,
+      b .1,
+      b .2,
+      omega (arith, join-part .kept, loop .inv .3),
+      reply-over _ _ _ (pre .0) (pre .1) (loop .inv .0) _ (loop .inv .4) (join-part .ensures .2),
+      on ∙ loop .inv .5,
+    )
 
 same-length : tie.Need-same-length Inv-loop μ-loop
-same-length c = omega (arith, ap (λ (l : List ℕ). length l) (c .before .before .before .before .before .before .before .before .before .before .before .before .before .loop .inv .0), c .before .before .before .before .before .before .before .before .before .join-part .kept)
+same-length c =
+    let join-part = c .before .before .before .before .before .before .before .before .before .join-part in
+    let loop = c .before .before .before .before .before .before .before .before .before .before .before .before .before
+    .loop in
+    omega (arith, ap (λ (l : List ℕ). length l) (loop .inv .0), join-part .kept)
 
 returns : tie.Need-returns Inv-loop μ-loop
 returns c =
-    (
-      turn-last _ (chosen-fits (c .before .before .before .before .before .before .before .before .before .before .before .before .before .before .before .before .before .before .before .before .before .pre .0) (c .before .before .before .before .before .before .before .before .before .before .before .before .before .before .before .before .before .before .before .before .before .pre .1)) (chosen-same (c .before .before .before .before .before .before .before .before .before .before .before .before .before .before .before .before .before .before .before .before .before .pre .0) (c .before .before .before .before .before .before .before .before .before .before .before .before .before .before .before .before .before .before .before .before .before .pre .1) (c .before .before .before .before .before .before .before .before .before .before .before .before .before .loop .inv .0)) (c .before .before .before .before .before .before .before .before .before .before .before .before .before .loop .inv .2) (c .before .before .before .before .before .before .before .before .before .before .before .before .before .loop .inv .1) (c .before .before .before .before .before .before .before .before .before .join-part .ensures .0) _ (c .before .n2 .given .1),
-      c .before .before .before .before .before .before .before .before .before .join-part .ensures .1 ∙ c .before .before .before .before .before .before .before .before .before .before .before .before .before .loop .inv .0,
-      reply-last _ _ _ (c .before .before .before .before .before .before .before .before .before .before .before .before .before .before .before .before .before .before .before .before .before .pre .0) (c .before .before .before .before .before .before .before .before .before .before .before .before .before .before .before .before .before .before .before .before .before .pre .1) (c .before .before .before .before .before .before .before .before .before .before .before .before .before .loop .inv .0) _ (c .before .before .before .before .before .before .before .before .before .before .before .before .before .loop .inv .4) (c .before .before .before .before .before .before .before .before .before .join-part .ensures .2) (c .before .before .before .before .before .before .before .before .before .before .before .before .before .before .before .before .before .before .before .before .before .fits .elements .fits) (c .before .before .before .before .before .before .before .before .before .before .before .before .before .loop .inv .1) (last-fits _ (chosen-fits (c .before .before .before .before .before .before .before .before .before .before .before .before .before .before .before .before .before .before .before .before .before .pre .0) (c .before .before .before .before .before .before .before .before .before .before .before .before .before .before .before .before .before .before .before .before .before .pre .1)) (chosen-same (c .before .before .before .before .before .before .before .before .before .before .before .before .before .before .before .before .before .before .before .before .before .pre .0) (c .before .before .before .before .before .before .before .before .before .before .before .before .before .before .before .before .before .before .before .before .before .pre .1) (c .before .before .before .before .before .before .before .before .before .before .before .before .before .loop .inv .0)) (c .before .before .before .before .before .before .before .before .before .before .before .before .before .loop .inv .2) (c .before .before .before .before .before .before .before .before .before .before .before .before .before .loop .inv .1) (c .before .before .before .before .before .before .before .before .before .join-part .ensures .0) _ (c .before .n2 .given .1)) (c .before .before .before .before .before .before .before .before .before .before .before .before .before .loop .inv .5),
+    let n2 = c .before .n2 in
+    let back = c .before .before .before .before .before .before .before .before .before in
+    let join-part = back .join-part in
+    let back = back .before .before .before .before in let loop = back .loop in
+    let start = back .before .before .before .before .before .before .before .before in (
+      turn-last _ (chosen-fits (start .pre .0) (start .pre .1))
+          (chosen-same (start .pre .0) (start .pre .1) (loop .inv .0)) (loop .inv .2) (loop .inv .1) (join-part .ensures .0)
+          _ (n2 .given .1),
+      join-part .ensures .1 ∙ loop .inv .0,
+      reply-last _ _ _ (start .pre .0) (start .pre .1) (loop .inv .0) _ (loop .inv .4) (join-part .ensures .2)
+          (start .fits .elements .fits) (loop .inv .1) (last-fits _ (chosen-fits (start .pre .0) (start .pre .1))
+          (chosen-same (start .pre .0) (start .pre .1) (loop .inv .0)) (loop .inv .2) (loop .inv .1) (join-part .ensures .0)
+          _ (n2 .given .1)) (loop .inv .5),
     )
 
 pub join-all-spec : {M : Type 1} → statement M

@@ -1,3 +1,4 @@
+-- The reply is the page of the entries due; those that fit are joined, and the status says whether they are all.
 use native.Mathlib.Omega.{arith}
 use mathlib.Core.Path.{refl}
 use Rattle.pallet.proofs.Paging.{turn-inside, turn-fits, turn-keeps, turn-last, turn-more, lies}
@@ -6,28 +7,91 @@ use Rattle.pallet.proofs.pages.join_page.Statement.{statement}
 use Rattle.pallet.proofs.pages.join_page.Tie as tie
 
 sub-copy-into : tie.Need-sub-copy-into
-sub-copy-into c = turn-inside _ _ (c .before .before .before .before .before .before .before .before .before .before .before .before .before .before .before .before .pre .0) (c .before .before .before .before .before .before .before .before .before .before .before .before .before .before .before .before .pre .1) (c .before .before .before .before .before .before .before .before .before .before .before .before .before .before .before .before .pre .2) (c .before .before .before .before .before .before .before .before .before .before .before .before .before .before .before .before .pre .3) (c .before .before .before .before .before .before .before .before .before .before .before .before .before .before .before .before .fits .start .fits) (c .before .before .before .before .before .send-list .ensures) .0
+sub-copy-into c =
+    let back = c .before .before .before .before .before in let send-list = back .send-list in
+    let start = back .before .before .before .before .before .before .before .before .before .before .before in
+    turn-inside _ _ (start .pre .0) (start .pre .1) (start .pre .2) (start .pre .3) (start .fits .start .fits)
+    (send-list .ensures) .0
 
 part-copy-into-start : tie.Need-part-copy-into-start
-part-copy-into-start c = omega (arith, turn-inside _ _ (c .before .before .before .before .before .before .before .before .before .before .before .before .before .before .before .before .before .pre .0) (c .before .before .before .before .before .before .before .before .before .before .before .before .before .before .before .before .before .pre .1) (c .before .before .before .before .before .before .before .before .before .before .before .before .before .before .before .before .before .pre .2) (c .before .before .before .before .before .before .before .before .before .before .before .before .before .before .before .before .before .pre .3) (c .before .before .before .before .before .before .before .before .before .before .before .before .before .before .before .before .before .fits .start .fits) (c .before .before .before .before .before .before .send-list .ensures), c .before .before .before .before .before .before .send-list .kept)
+part-copy-into-start c =
+    let send-list = c .before .before .before .before .before .before .send-list in
+    let pre = c .before .before .before .before .before .before .before .before .before .before .before .before .before
+    .before .before .before .before .pre in
+    let fits-at = c .before .before .before .before .before .before .before .before .before .before .before .before
+    .before .before .before .before .before .fits in
+    omega (
+      arith,
+      turn-inside _ _ (pre .0) (pre .1) (pre .2) (pre .3) (fits-at .start .fits) (send-list .ensures),
+      send-list .kept,
+    )
 
 part-copy-into-end : tie.Need-part-copy-into-end
-part-copy-into-end c = omega (arith, turn-inside _ _ (c .before .before .before .before .before .before .before .before .before .before .before .before .before .before .before .before .before .pre .0) (c .before .before .before .before .before .before .before .before .before .before .before .before .before .before .before .before .before .pre .1) (c .before .before .before .before .before .before .before .before .before .before .before .before .before .before .before .before .before .pre .2) (c .before .before .before .before .before .before .before .before .before .before .before .before .before .before .before .before .before .pre .3) (c .before .before .before .before .before .before .before .before .before .before .before .before .before .before .before .before .before .fits .start .fits) (c .before .before .before .before .before .before .send-list .ensures), c .before .before .before .before .before .before .send-list .kept)
+part-copy-into-end c =
+    let send-list = c .before .before .before .before .before .before .send-list in
+    let pre = c .before .before .before .before .before .before .before .before .before .before .before .before .before
+    .before .before .before .before .pre in
+    let fits-at = c .before .before .before .before .before .before .before .before .before .before .before .before
+    .before .before .before .before .before .fits in
+    omega (
+      arith,
+      turn-inside _ _ (pre .0) (pre .1) (pre .2) (pre .3) (fits-at .start .fits) (send-list .ensures),
+      send-list .kept,
+    )
 
 copy-into-requires : tie.Need-copy-into-requires
-copy-into-requires c κs = turn-fits _ _ (c .before .before .before .before .before .before .before .before .before .before .before .before .before .before .before .before .before .before .pre .0) (c .before .before .before .before .before .before .before .before .before .before .before .before .before .before .before .before .before .before .pre .1) (c .before .before .before .before .before .before .before .before .before .before .before .before .before .before .before .before .before .before .pre .2) (c .before .before .before .before .before .before .before .before .before .before .before .before .before .before .before .before .before .before .pre .3) (c .before .before .before .before .before .before .before .before .before .before .before .before .before .before .before .before .before .before .fits .start .fits) (c .before .before .before .before .before .before .before .send-list .ensures)
+copy-into-requires c κs =
+    let back = c .before .before .before .before .before .before .before in let send-list = back .send-list in
+    let start = back .before .before .before .before .before .before .before .before .before .before .before in
+    turn-fits _ _ (start .pre .0) (start .pre .1) (start .pre .2) (start .pre .3) (start .fits .start .fits)
+    (send-list .ensures)
 
 sub-end : tie.Need-sub-end
-sub-end c = turn-inside _ _ (c .before .before .before .before .before .before .before .before .before .before .before .before .before .before .before .before .before .before .before .before .before .pre .0) (c .before .before .before .before .before .before .before .before .before .before .before .before .before .before .before .before .before .before .before .before .before .pre .1) (c .before .before .before .before .before .before .before .before .before .before .before .before .before .before .before .before .before .before .before .before .before .pre .2) (c .before .before .before .before .before .before .before .before .before .before .before .before .before .before .before .before .before .before .before .before .before .pre .3) (c .before .before .before .before .before .before .before .before .before .before .before .before .before .before .before .before .before .before .before .before .before .fits .start .fits) (c .before .before .before .before .before .before .before .before .before .before .send-list .ensures) .0
+sub-end c =
+    let back = c .before .before .before .before .before .before .before .before .before .before in
+    let send-list = back .send-list in
+    let start = back .before .before .before .before .before .before .before .before .before .before .before in
+    turn-inside _ _ (start .pre .0) (start .pre .1) (start .pre .2) (start .pre .3) (start .fits .start .fits)
+    (send-list .ensures) .0
 
 add-end : tie.Need-add-end
-add-end c = let a = turn-inside _ _ (c .before .before .before .before .before .before .before .before .before .before .before .before .before .before .before .before .before .before .before .before .before .pre .0) (c .before .before .before .before .before .before .before .before .before .before .before .before .before .before .before .before .before .before .before .before .before .pre .1) (c .before .before .before .before .before .before .before .before .before .before .before .before .before .before .before .before .before .before .before .before .before .pre .2) (c .before .before .before .before .before .before .before .before .before .before .before .before .before .before .before .before .before .before .before .before .before .pre .3) (c .before .before .before .before .before .before .before .before .before .before .before .before .before .before .before .before .before .before .before .before .before .fits .start .fits) (c .before .before .before .before .before .before .before .before .before .before .send-list .ensures) .3 in let b = c .before .before .before .before .before .before .before .before .before .before .before .before .before .before .before .before .before .before .before .before .before .pre .4 in search needs
+add-end c =
+    let a = (let back = c .before .before .before .before .before .before .before .before .before .before in
+    let send-list = back .send-list in
+    let start = back .before .before .before .before .before .before .before .before .before .before .before in
+    turn-inside _ _ (start .pre .0) (start .pre .1) (start .pre .2) (start .pre .3) (start .fits .start .fits)
+    (send-list .ensures) .3) in
+    let b = c .before .before .before .before .before .before .before .before .before .before .before .before .before
+    .before .before .before .before .before .before .before .before .pre .4 in
+    search needs
 
 returns : tie.Need-returns
-returns c = (turn-last _ _ (c .before .before .before .before .before .before .before .before .before .before .before .before .before .before .before .before .before .before .before .before .before .before .before .pre .0) (c .before .before .before .before .before .before .before .before .before .before .before .before .before .before .before .before .before .before .before .before .before .before .before .pre .1) (c .before .before .before .before .before .before .before .before .before .before .before .before .before .before .before .before .before .before .before .before .before .before .before .pre .2) (c .before .before .before .before .before .before .before .before .before .before .before .before .before .before .before .before .before .before .before .before .before .before .before .pre .3) (c .before .before .before .before .before .before .before .before .before .before .before .before .before .before .before .before .before .before .before .before .before .before .before .fits .start .fits) (c .before .before .before .before .before .before .before .before .before .before .before .before .send-list .ensures) _ _ _ (c .before .before .before .before .copy-into .ensures) refl (c .if1 .taken), turn-keeps _ (c .before .before .before .before .before .before .before .before .before .before .before .before .before .before .before .before .before .before .before .before .before .before .before .args .got) (c .before .before .before .before .before .before .before .before .before .before .before .before .before .before .before .before .before .before .before .before .before .before .before .pre .0) (c .before .before .before .before .before .before .before .before .before .before .before .before .before .before .before .before .before .before .before .before .before .before .before .pre .1) (c .before .before .before .before .before .before .before .before .before .before .before .before .before .before .before .before .before .before .before .before .before .before .before .pre .2) (c .before .before .before .before .before .before .before .before .before .before .before .before .before .before .before .before .before .before .before .before .before .before .before .pre .3) (c .before .before .before .before .before .before .before .before .before .before .before .before .before .before .before .before .before .before .before .before .before .before .before .fits .start .fits) (c .before .before .before .before .before .before .before .before .before .before .before .before .send-list .ensures), lies _ (c .before .before .before .before .before .before .before .before .before .before .before .before .before .before .before .before .before .before .before .before .before .before .before .args .got) (c .before .before .before .before .before .before .before .before .before .before .before .before .before .before .before .before .before .before .before .before .before .before .before .pre .0) (c .before .before .before .before .before .before .before .before .before .before .before .before .before .before .before .before .before .before .before .before .before .before .before .pre .1) (c .before .before .before .before .before .before .before .before .before .before .before .before .before .before .before .before .before .before .before .before .before .before .before .pre .2) (c .before .before .before .before .before .before .before .before .before .before .before .before .before .before .before .before .before .before .before .before .before .before .before .pre .3) (c .before .before .before .before .before .before .before .before .before .before .before .before .before .before .before .before .before .before .before .before .before .before .before .fits .start .fits) (c .before .before .before .before .before .before .before .before .before .before .before .before .send-list .ensures))
+returns c =
+    let back = c .before .before .before .before in let copy-into = back .copy-into in
+    let back = back .before .before .before .before .before .before .before .before in
+    let send-list = back .send-list in
+    let start = back .before .before .before .before .before .before .before .before .before .before .before in (
+      turn-last _ _ (start .pre .0) (start .pre .1) (start .pre .2) (start .pre .3) (start .fits .start .fits)
+          (send-list .ensures) _ _ _ (copy-into .ensures) refl (c .if1 .taken),
+      turn-keeps _ (start .args .got) (start .pre .0) (start .pre .1) (start .pre .2) (start .pre .3)
+          (start .fits .start .fits) (send-list .ensures),
+      lies _ (start .args .got) (start .pre .0) (start .pre .1) (start .pre .2) (start .pre .3)
+          (start .fits .start .fits) (send-list .ensures),
+    )
 
 returns-2 : tie.Need-returns-2
-returns-2 c = (turn-more _ _ (c .before .before .before .before .before .before .before .before .before .before .before .before .before .before .before .before .before .before .before .before .before .before .before .pre .0) (c .before .before .before .before .before .before .before .before .before .before .before .before .before .before .before .before .before .before .before .before .before .before .before .pre .1) (c .before .before .before .before .before .before .before .before .before .before .before .before .before .before .before .before .before .before .before .before .before .before .before .pre .2) (c .before .before .before .before .before .before .before .before .before .before .before .before .before .before .before .before .before .before .before .before .before .before .before .pre .3) (c .before .before .before .before .before .before .before .before .before .before .before .before .before .before .before .before .before .before .before .before .before .before .before .fits .start .fits) (c .before .before .before .before .before .before .before .before .before .before .before .before .send-list .ensures) _ _ _ (c .before .before .before .before .copy-into .ensures) refl (c .if1 .left), turn-keeps _ (c .before .before .before .before .before .before .before .before .before .before .before .before .before .before .before .before .before .before .before .before .before .before .before .args .got) (c .before .before .before .before .before .before .before .before .before .before .before .before .before .before .before .before .before .before .before .before .before .before .before .pre .0) (c .before .before .before .before .before .before .before .before .before .before .before .before .before .before .before .before .before .before .before .before .before .before .before .pre .1) (c .before .before .before .before .before .before .before .before .before .before .before .before .before .before .before .before .before .before .before .before .before .before .before .pre .2) (c .before .before .before .before .before .before .before .before .before .before .before .before .before .before .before .before .before .before .before .before .before .before .before .pre .3) (c .before .before .before .before .before .before .before .before .before .before .before .before .before .before .before .before .before .before .before .before .before .before .before .fits .start .fits) (c .before .before .before .before .before .before .before .before .before .before .before .before .send-list .ensures), lies _ (c .before .before .before .before .before .before .before .before .before .before .before .before .before .before .before .before .before .before .before .before .before .before .before .args .got) (c .before .before .before .before .before .before .before .before .before .before .before .before .before .before .before .before .before .before .before .before .before .before .before .pre .0) (c .before .before .before .before .before .before .before .before .before .before .before .before .before .before .before .before .before .before .before .before .before .before .before .pre .1) (c .before .before .before .before .before .before .before .before .before .before .before .before .before .before .before .before .before .before .before .before .before .before .before .pre .2) (c .before .before .before .before .before .before .before .before .before .before .before .before .before .before .before .before .before .before .before .before .before .before .before .pre .3) (c .before .before .before .before .before .before .before .before .before .before .before .before .before .before .before .before .before .before .before .before .before .before .before .fits .start .fits) (c .before .before .before .before .before .before .before .before .before .before .before .before .send-list .ensures))
+returns-2 c =
+    let back = c .before .before .before .before in let copy-into = back .copy-into in
+    let back = back .before .before .before .before .before .before .before .before in
+    let send-list = back .send-list in
+    let start = back .before .before .before .before .before .before .before .before .before .before .before in (
+      turn-more _ _ (start .pre .0) (start .pre .1) (start .pre .2) (start .pre .3) (start .fits .start .fits)
+          (send-list .ensures) _ _ _ (copy-into .ensures) refl (c .if1 .left),
+      turn-keeps _ (start .args .got) (start .pre .0) (start .pre .1) (start .pre .2) (start .pre .3)
+          (start .fits .start .fits) (send-list .ensures),
+      lies _ (start .args .got) (start .pre .0) (start .pre .1) (start .pre .2) (start .pre .3)
+          (start .fits .start .fits) (send-list .ensures),
+    )
 
 pub join-page-spec : {M : Type 1} → statement M
 join-page-spec =

@@ -1,3 +1,4 @@
+-- What is passed and what is left make up all entries; each is written between the place of the header and the limit.
 use native.Mathlib.Omega.{arith}
 use Prim.Native.Nat.{_-_}
 use mathlib.Core.Path.{refl}
@@ -13,8 +14,9 @@ use Rattle.pallet.proofs.walks.measure_all.Statement.{statement}
 use Rattle.pallet.proofs.walks.measure_all.Tie as tie
 
 abbrev Inv-loop : tie.InvT-loop
-Inv-loop structures tags others names tag-names scope body n limit buf₀ total₀ bound₀ hint₀ buf total bound hint = KeptFrom limit buf₀ buf
-    × EachValid structures tags others names tag-names (λ t. Measuring limit (due t scope (numbers n (drop 2 body)) 0) (due t scope (numbers n (drop 2 body)) bound) total)
+Inv-loop structures tags others names tag-names scope body n limit buf₀ total₀ bound₀ hint₀ buf total bound hint =
+    KeptFrom limit buf₀ buf × EachValid structures tags others names tag-names
+    (λ t. Measuring limit (due t scope (numbers n (drop 2 body)) 0) (due t scope (numbers n (drop 2 body)) bound) total)
 
 abbrev μ-loop : tie.MeasureT-loop
 μ-loop structures tags others names tag-names scope body n limit buf₀ total₀ bound₀ hint₀ buf total bound hint = 71302080 - total
@@ -23,25 +25,71 @@ loop-holds : tie.Need-loop-holds Inv-loop μ-loop
 loop-holds c = ((refl, refl), λ m p z y v. measure-none _ _ (due-few _ y v _ _ _))
 
 sub-total : tie.Need-sub-total Inv-loop μ-loop
-sub-total c = let f = further-more _ _ _ (c .before .u .given .1) (c .before .before .before .before .before .page-step .ensures .1) in search needs
+sub-total c =
+    let f = (let page-step = c .before .before .before .before .before .page-step in
+    further-more _ _ _ (c .before .u .given .1) (page-step .ensures .1)) in
+    search needs
 
 add-total : tie.Need-add-total Inv-loop μ-loop
-add-total c = let w = c .before .before .before .before .before .before .before .before .before .before .before .before .pre .0 in let f = further-more _ _ _ (c .before .u .given .1) (c .before .before .before .before .before .page-step .ensures .1) in let q = measure-more _ _ _ _ _ _ _ _ (c .before .before .before .before .before .before .before .loop .inv .1 (w .members) (w .programs) (w .templates) (w .memory) (w .ok)) _ _ (c .before .before .before .before .before .page-step .ensures .0 (w .members) (w .programs) (w .templates) (w .memory) (w .ok)) (c .before .before .before .before .before .before .before .before .before .before .before .before .pre .4) (c .before .u .given .1) .1 in search needs
+add-total c =
+    let w = c .before .before .before .before .before .before .before .before .before .before .before .before .pre .0 in
+    let f = (let page-step = c .before .before .before .before .before .page-step in
+    further-more _ _ _ (c .before .u .given .1) (page-step .ensures .1)) in
+    let q = (let back = c .before .before .before .before .before in
+    let page-step = back .page-step in
+    let loop = back .before .before .loop in
+    let pre = back .before .before .before .before .before .before .before .pre in
+    measure-more _ _ _ _ _ _ _ _ (loop .inv .1 (w .members) (w .programs) (w .templates) (w .memory) (w .ok)) _ _
+    (page-step .ensures .0 (w .members) (w .programs) (w .templates) (w .memory) (w .ok)) (pre .4)
+    (c .before .u .given .1) .1) in
+    search needs
 
 loop-less : tie.Need-loop-less Inv-loop μ-loop
-loop-less c = let w = c .before .before .before .before .before .before .before .before .before .before .before .before .pre .0 in let f = further-more _ _ _ (c .before .u .given .1) (c .before .before .before .before .before .page-step .ensures .1) in let q = measure-more _ _ _ _ _ _ _ _ (c .before .before .before .before .before .before .before .loop .inv .1 (w .members) (w .programs) (w .templates) (w .memory) (w .ok)) _ _ (c .before .before .before .before .before .page-step .ensures .0 (w .members) (w .programs) (w .templates) (w .memory) (w .ok)) (c .before .before .before .before .before .before .before .before .before .before .before .before .pre .4) (c .before .u .given .1) .1 in omega (arith, f .0, q)
+loop-less c =
+    let w = c .before .before .before .before .before .before .before .before .before .before .before .before .pre .0 in
+    let f = (let page-step = c .before .before .before .before .before .page-step in
+    further-more _ _ _ (c .before .u .given .1) (page-step .ensures .1)) in
+    let q = (let back = c .before .before .before .before .before in
+    let page-step = back .page-step in
+    let loop = back .before .before .loop in
+    let pre = back .before .before .before .before .before .before .before .pre in
+    measure-more _ _ _ _ _ _ _ _ (loop .inv .1 (w .members) (w .programs) (w .templates) (w .memory) (w .ok)) _ _
+    (page-step .ensures .0 (w .members) (w .programs) (w .templates) (w .memory) (w .ok)) (pre .4)
+    (c .before .u .given .1) .1) in
+    omega (arith, f .0, q)
 
 loop-again : tie.Need-loop-again Inv-loop μ-loop
-loop-again c = (walk-kept _ (c .before .before .before .before .before .before .before .before .before .before .before .before .pre .0) (c .before .before .before .before .before .before .before .loop .inv .0) (c .before .before .before .before .before .before .before .before .before .before .before .before .pre .5) (c .before .before .before .before .before .page-step .ensures .0), λ m p z y v. measure-more _ _ _ _ _ _ _ _ (c .before .before .before .before .before .before .before .loop .inv .1 m p z y v) _ _ (c .before .before .before .before .before .page-step .ensures .0 m p z y v) (c .before .before .before .before .before .before .before .before .before .before .before .before .pre .4) (c .before .u .given .1) .0)
+loop-again c =
+    let back = c .before .before .before .before .before in let page-step = back .page-step in
+    let loop = back .before .before .loop in
+    let pre = back .before .before .before .before .before .before .before .pre in (
+      walk-kept _ (pre .0) (loop .inv .0) (pre .5) (page-step .ensures .0),
+      λ m p z y v. measure-more _ _ _ _ _ _ _ _ (loop .inv .1 m p z y v) _ _ (page-step .ensures .0 m p z y v) (pre .4)
+          (c .before .u .given .1) .0,
+    )
 
 enum-told : tie.Need-enum-told Inv-loop μ-loop
 enum-told c = search needs
 
 returns : tie.Need-returns Inv-loop μ-loop
-returns c = (λ m p z y v. measure-full _ _ _ _ _ _ _ _ (c .before .before .before .before .before .before .loop .inv .1 m p z y v) _ _ (c .before .before .before .before .page-step .ensures .0 m p z y v) (c .enum-told .given .1), walk-kept _ (c .before .before .before .before .before .before .before .before .before .before .before .pre .0) (c .before .before .before .before .before .before .loop .inv .0) (c .before .before .before .before .before .before .before .before .before .before .before .pre .5) (c .before .before .before .before .page-step .ensures .0))
+returns c =
+    let back = c .before .before .before .before in let page-step = back .page-step in
+    let loop = back .before .before .loop in
+    let pre = back .before .before .before .before .before .before .before .pre in (
+      λ m p z y v. measure-full _ _ _ _ _ _ _ _ (loop .inv .1 m p z y v) _ _ (page-step .ensures .0 m p z y v)
+          (c .enum-told .given .1),
+      walk-kept _ (pre .0) (loop .inv .0) (pre .5) (page-step .ensures .0),
+    )
 
 returns-2 : tie.Need-returns-2 Inv-loop μ-loop
-returns-2 c = (λ m p z y v. measure-done _ _ _ _ _ _ _ _ (c .before .before .before .before .before .before .loop .inv .1 m p z y v) _ _ (c .before .before .before .before .page-step .ensures .0 m p z y v) (c .before .before .before .before .before .before .before .before .before .before .before .pre .3) (c .enum-told2 .given .1), walk-kept _ (c .before .before .before .before .before .before .before .before .before .before .before .pre .0) (c .before .before .before .before .before .before .loop .inv .0) (c .before .before .before .before .before .before .before .before .before .before .before .pre .5) (c .before .before .before .before .page-step .ensures .0))
+returns-2 c =
+    let back = c .before .before .before .before in let page-step = back .page-step in
+    let loop = back .before .before .loop in
+    let pre = back .before .before .before .before .before .before .before .pre in (
+      λ m p z y v. measure-done _ _ _ _ _ _ _ _ (loop .inv .1 m p z y v) _ _ (page-step .ensures .0 m p z y v) (pre .3)
+          (c .enum-told2 .given .1),
+      walk-kept _ (pre .0) (loop .inv .0) (pre .5) (page-step .ensures .0),
+    )
 
 pub measure-all-spec : {M : Type 1} → statement M
 measure-all-spec =
