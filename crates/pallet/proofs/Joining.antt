@@ -118,29 +118,29 @@ module _ {t : Tables} {f : Flags} {m path : List ℕ} {elements limit header buf
       ap (λ (x : Answer). x .reply) (selected-answer t f m path elements (j .selection) got limit (reads count) (rw chosen-bytes at due))
 
 module _ {t : Tables} {f : Flags} {m path : List ℕ} {elements limit header got buffer room-out n : ℕ} {old new left : List ℕ}
-    (a : Sendable t m path limit buffer) (j : Joinable t f m path elements limit header room-out) (count : elements < 65536)
-    (due : got < length (chosenBytes m (chosen t f path elements)))
+    (p : Sendable t m path limit buffer × Joinable t f m path elements limit header room-out × (got < length (chosenBytes m (chosen t f path elements))))
+    (count : elements < 65536)
     (r : Answers limit (answer t f m (readRequest path elements got) limit) old n new left) where
   abbrev selected : List ℕ
-  selected = selectedBytes (j .selection) m
+  selected = selectedBytes (p .1 .selection) m
 
   less : got < length selected
-  less = rw (chosen-bytes a j) at due
+  less = rw (chosen-bytes (p .0) (p .1)) at (p .2)
 
-  reply-is : answer t f m (readRequest path elements got) limit .reply ≡ fragmentReply 0x52 (j .selection .header) (drop got selected) limit
-  reply-is = sent-is a j got count due
+  reply-is : answer t f m (readRequest path elements got) limit .reply ≡ fragmentReply 0x52 (p .1 .selection .header) (drop got selected) limit
+  reply-is = sent-is (p .0) (p .1) got count (p .2)
 
-  long : n ≡ length (fragmentReply 0x52 (j .selection .header) (drop got selected) limit)
+  long : n ≡ length (fragmentReply 0x52 (p .1 .selection .header) (drop got selected) limit)
   long = r .length-is ∙ ap (λ (l : List ℕ). length l) reply-is
 
-  lies : new ≡ laid (room limit) old (fragmentReply 0x52 (j .selection .header) (drop got selected) limit)
+  lies : new ≡ laid (room limit) old (fragmentReply 0x52 (p .1 .selection .header) (drop got selected) limit)
   lies = r .buffer-is ∙ ap (laid (room limit) old) reply-is
 
-  open-space : 5 + length (j .selection .header) ≤ limit
-  open-space = omega (arith, j .header-is, j .some-room)
+  open-space : 5 + length (p .1 .selection .header) ≤ limit
+  open-space = omega (arith, p .1 .header-is, p .1 .some-room)
 
   part-length : n ≡ 4 + header + sizeOf (length selected - got) (space header limit)
-  part-length = rw (j .header-is) (fragment-length (j .selection .header) selected old new got limit n less open-space long lies)
+  part-length = rw (p .1 .header-is) (fragment-length (p .1 .selection .header) selected old new got limit n less open-space long lies)
 
   pub part-keeps : left ≡ m
   part-keeps = r .memory-is ∙ read-keeps t f m limit path elements got
@@ -148,26 +148,26 @@ module _ {t : Tables} {f : Flags} {m path : List ℕ} {elements limit header got
   -- the data stands in the reply buffer
   pub part-inside : (4 + header ≤ n) × (n ≤ buffer) × (n ≤ 65535)
   part-inside =
-      let fits : n ≤ limit = omega (arith, part-length, size-fits (length selected - got) (space header limit), j .some-room) in
-      (omega (arith, part-length), omega (arith, a .has-room), omega (arith, a .limit-fits))
+      let fits : n ≤ limit = omega (arith, part-length, size-fits (length selected - got) (space header limit), p .1 .some-room) in
+      (omega (arith, part-length), omega (arith, p .0 .has-room), omega (arith, p .0 .limit-fits))
 
   pub part-fits : got + length (take (n - (4 + header)) (drop (4 + header) new)) ≤ room-out
   part-fits =
-      omega (arith, length-take (n - (4 + header)) (drop (4 + header) new), part-length, size-le (length selected - got) (space header limit), less, j .fits)
+      omega (arith, length-take (n - (4 + header)) (drop (4 + header) new), part-length, size-le (length selected - got) (space header limit), less, p .1 .fits)
 
   module _ (first end : ℕ) (out filled : List ℕ) (behind : first ≡ 4 + header) (joins : filled ≡ put out got (take (n - first) (drop first new)))
       (ends : end ≡ got + (n - first)) where
     pub part-last : getD new 2 0 ≡ 0 → Brings (space header limit) (chosenBytes m (chosen t f path elements)) got out (Last end) filled
     part-last z =
-        rw (chosen-bytes a j, j .header-is)
-        (brings-last (j .selection .header) selected old new got limit n less open-space long lies first end out filled
-        (omega (arith, behind, j .header-is)) joins ends z)
+        rw (chosen-bytes (p .0) (p .1), p .1 .header-is)
+        (brings-last (p .1 .selection .header) selected old new got limit n less open-space long lies first end out filled
+        (omega (arith, behind, p .1 .header-is)) joins ends z)
 
     pub part-more : getD new 2 0 ≢ 0 → Brings (space header limit) (chosenBytes m (chosen t f path elements)) got out (More end) filled
     part-more z =
-        rw (chosen-bytes a j, j .header-is)
-        (brings-more (j .selection .header) selected old new got limit n less open-space long lies first end out filled
-        (omega (arith, behind, j .header-is)) joins ends z)
+        rw (chosen-bytes (p .0) (p .1), p .1 .header-is)
+        (brings-more (p .1 .selection .header) selected old new got limit n less open-space long lies first end out filled
+        (omega (arith, behind, p .1 .header-is)) joins ends z)
 
 -- the status of any read, and its reply in the buffer
 pub status-first : (t : Tables) (f : Flags) (m path : List ℕ) (elements limit n : ℕ) (old new left : List ℕ)

@@ -146,18 +146,18 @@ module _ (es : List Entry) (limit n : ℕ) (old new : List ℕ) (room-for : 4 + 
 -- ---- one page that is granted
 
 module _ {t : Tables} (f : Flags) {m program attributes : List ℕ} {limit buffer scope n start size : ℕ} (got : ℕ) {room-out : ℕ} {old new left : List ℕ}
-    (a : Askable t m program attributes limit buffer) (g : Granted t program attributes scope n)
-    (room-for : 4 + longest (due t scope (numbers n (drop 2 attributes)) start) ≤ limit)
-    (fits : got + length (bytesOf (due t scope (numbers n (drop 2 attributes)) start)) ≤ room-out)
+    (p : Askable t m program attributes limit buffer × Granted t program attributes scope n
+    × (4 + longest (due t scope (numbers n (drop 2 attributes)) start) ≤ limit)
+    × (got + length (bytesOf (due t scope (numbers n (drop 2 attributes)) start)) ≤ room-out) × (got ≤ 71302080))
     (small : start < 4294967296) (r : Answers limit (answer t f m (listRequest program attributes start) limit) old size new left) where
   abbrev entries : List Entry
   entries = due t scope (numbers n (drop 2 attributes)) start
 
   short : length program ≤ 255
-  short = askable-short program attributes (a .askable) .0
+  short = askable-short program attributes (p .0 .askable) .0
 
   reply-is : answer t f m (listRequest program attributes start) limit .reply ≡ pageReply 0x55 entries limit
-  reply-is = list-granted t f m program attributes start limit short small scope (numbers n (drop 2 attributes)) (g .scope-is) (g .numbers-are) (g .accepted)
+  reply-is = list-granted t f m program attributes start limit short small scope (numbers n (drop 2 attributes)) (p .1 .scope-is) (p .1 .numbers-are) (p .1 .accepted)
 
   size-is : size ≡ length (pageReply 0x55 entries limit)
   size-is = r .length-is ∙ ap (λ (l : List ℕ). length l) reply-is
@@ -170,12 +170,12 @@ module _ {t : Tables} (f : Flags) {m program attributes : List ℕ} {limit buffe
 
   pub turn-inside : (4 ≤ size) × (size ≤ buffer) × (got + (size - 4) ≤ room-out) × (size ≤ 65535)
   turn-inside =
-      let l = page-length entries limit size old new room-for size-is lies in
-      let p = proper-answer t f m (listRequest program attributes start) limit .fits in (
+      let l = page-length entries limit size old new (p .2) size-is lies in
+      let q = proper-answer t f m (listRequest program attributes start) limit .fits in (
         omega (arith, l),
-        omega (arith, r .length-is, p, a .has-room),
-        omega (arith, l, bytes-front (fitting (limit - 4) entries) entries),
-        omega (arith, r .length-is, p, a .limit-fits),
+        omega (arith, r .length-is, q, p .0 .has-room),
+        omega (arith, l, p .3, bytes-front (fitting (limit - 4) entries) entries),
+        omega (arith, r .length-is, q, p .0 .limit-fits),
       )
 
   pub turn-fits : got + length (take (size - 4) (drop 4 new)) ≤ room-out
@@ -183,11 +183,11 @@ module _ {t : Tables} (f : Flags) {m program attributes : List ℕ} {limit buffe
 
   module _ (end : ℕ) (out filled : List ℕ) (joins : filled ≡ put out got (take (size - 4) (drop 4 new))) (ends : end ≡ got + (size - 4)) where
     pub turn-last : getD new 2 0 ≡ 0 → Page entries limit got out (Last end) filled
-    turn-last = page-last entries limit size old new room-for size-is lies got end out filled joins ends
+    turn-last = page-last entries limit size old new (p .2) size-is lies got end out filled joins ends
 
     pub turn-more : getD new 2 0 ≢ 0 → Page entries limit got out (More end) filled
     turn-more =
-        page-more entries limit size old new room-for size-is lies got end out filled joins ends
+        page-more entries limit size old new (p .2) size-is lies got end out filled joins ends
         (due-some t scope (numbers n (drop 2 attributes)) start)
 
 -- ---- the last page: one page more, and the last one

@@ -24,9 +24,10 @@ use Rattle.model.specs.declared.least.Least.the-variants.{Of, Empty}
 use Rattle.model.specs.declared.least.Next.{Next}
 use Rattle.model.specs.declared.least.Next.the-variants.{Tag, Other, Nothing}
 use Rattle.model.proofs.Due.{NextDue, none-due, tag-due, other-due, next-due}
-use Rattle.listing.specs.Entries.{Stepped, more, full, done, EachValid, SomeValid}
+use Rattle.listing.specs.Entries.{Stepped, more, full, done, EachValid, SomeValid, Further}
 use Rattle.listing.specs.declared.pages.Step.{Step}
 use Rattle.listing.specs.declared.pages.Step.the-variants.{More, Full, Done}
+use Rattle.listing.proofs.Filled.{further-more}
 use Rattle.pallet.specs.declared.walks.Measure.the-variants.{Total, Narrow}
 use Rattle.pallet.specs.declared.walks.Start.{Start}
 use Rattle.pallet.specs.declared.walks.Start.the-variants.{At, Nowhere}
@@ -119,6 +120,18 @@ module _ (t : Tables) (scope : ℕ) (attributes : List ℕ) (limit bound : ℕ) 
 
       pub measure-done : 4 ≤ limit → s ≡ Done → Measured all limit (Total total)
       measure-done l q = on-done l (rw q at step)
+
+-- another entry keeps the sum small
+pub measure-few : {structures tags others : List Row} {names tagNames : List ℕ} {scope : ℕ} {attributes : List ℕ} {limit bound total u b h : ℕ}
+    {old new : List ℕ} {s : Step} → SomeValid structures tags others names tagNames
+    → EachValid structures tags others names tagNames (λ t. Measuring limit (due t scope attributes 0) (due t scope attributes bound) total)
+    → EachValid structures tags others names tagNames (λ t. Stepped t scope attributes limit 4 bound old s new) × Further 4 limit s
+    → limit ≤ 65535 → s ≡ More u b h → (total + 65535 ≤ 71302080) × (8 ≤ u) × (u ≤ limit)
+measure-few w m step l q =
+    let few = measure-more _ _ _ _ _ _ _ _ (m (w .members) (w .programs) (w .templates) (w .memory) (w .ok)) _ _
+    (step .0 (w .members) (w .programs) (w .templates) (w .memory) (w .ok)) l q .1 in
+    let on = further-more _ _ _ q (step .1) in
+    (few, on .0, on .1)
 
 -- ---- the entries passed as far as they fit: what is left from here on is what is left from the start
 

@@ -15,53 +15,41 @@ sub-copy-into : tie.Need-sub-copy-into
 sub-copy-into c =
     let back = c .before .before .before .before .before in let send-read = back .send-read in
     let start = back .before .before .before .before .before .before .before .before .before .before in
-    part-inside (start .pre .0) (start .pre .1) (start .fits .elements .fits) (start .pre .2) (send-read .ensures) .0
+    part-inside (start .pre) (start .fits .elements .fits) (send-read .ensures) .0
 
 part-copy-into-start : tie.Need-part-copy-into-start
 part-copy-into-start c =
-    let send-read = c .before .before .before .before .before .before .send-read in
-    let pre = c .before .before .before .before .before .before .before .before .before .before .before .before .before
-    .before .before .before .pre in
-    let fits-at = c .before .before .before .before .before .before .before .before .before .before .before .before
-    .before .before .before .before .fits in
-    omega (
-      arith,
-      part-inside (pre .0) (pre .1) (fits-at .elements .fits) (pre .2) (send-read .ensures),
-      send-read .kept,
-    )
+    let i = (let back = c .before .before .before .before .before .before in
+    let start = back .before .before .before .before .before .before .before .before .before .before in
+    part-inside (start .pre) (start .fits .elements .fits) (back .send-read .ensures)) in
+    omega (arith, i, c .before .before .before .before .before .before .send-read .kept)
 
 part-copy-into-end : tie.Need-part-copy-into-end
 part-copy-into-end c =
-    let send-read = c .before .before .before .before .before .before .send-read in
-    let pre = c .before .before .before .before .before .before .before .before .before .before .before .before .before
-    .before .before .before .pre in
-    let fits-at = c .before .before .before .before .before .before .before .before .before .before .before .before
-    .before .before .before .before .fits in
-    omega (
-      arith,
-      part-inside (pre .0) (pre .1) (fits-at .elements .fits) (pre .2) (send-read .ensures),
-      send-read .kept,
-    )
+    let i = (let back = c .before .before .before .before .before .before in
+    let start = back .before .before .before .before .before .before .before .before .before .before in
+    part-inside (start .pre) (start .fits .elements .fits) (back .send-read .ensures)) in
+    omega (arith, i, c .before .before .before .before .before .before .send-read .kept)
 
 copy-into-requires : tie.Need-copy-into-requires
 copy-into-requires c κs =
     let back = c .before .before .before .before .before .before .before in let send-read = back .send-read in
     let start = back .before .before .before .before .before .before .before .before .before .before in
-    part-fits (start .pre .0) (start .pre .1) (start .fits .elements .fits) (start .pre .2) (send-read .ensures)
+    part-fits (start .pre) (start .fits .elements .fits) (send-read .ensures)
 
 sub-end : tie.Need-sub-end
 sub-end c =
     let back = c .before .before .before .before .before .before .before .before .before .before in
     let send-read = back .send-read in
     let start = back .before .before .before .before .before .before .before .before .before .before in
-    part-inside (start .pre .0) (start .pre .1) (start .fits .elements .fits) (start .pre .2) (send-read .ensures) .0
+    part-inside (start .pre) (start .fits .elements .fits) (send-read .ensures) .0
 
 add-end : tie.Need-add-end
 add-end c =
     let a = (let back = c .before .before .before .before .before .before .before .before .before .before in
     let send-read = back .send-read in
     let start = back .before .before .before .before .before .before .before .before .before .before in
-    part-inside (start .pre .0) (start .pre .1) (start .fits .elements .fits) (start .pre .2) (send-read .ensures) .2) in
+    part-inside (start .pre) (start .fits .elements .fits) (send-read .ensures) .2) in
     let b = (let pre = c .before .before .before .before .before .before .before .before .before .before .before .before
     .before .before .before .before .before .before .before .before .pre in
     chosen-few (pre .0) (pre .1) _ (pre .2)) in
@@ -73,9 +61,9 @@ returns c =
     let back = back .before .before .before .before .before .before .before .before in
     let send-read = back .send-read in
     let start = back .before .before .before .before .before .before .before .before .before .before in (
-      part-last (start .pre .0) (start .pre .1) (start .fits .elements .fits) (start .pre .2) (send-read .ensures) _ _ _
+      part-last (start .pre) (start .fits .elements .fits) (send-read .ensures) _ _ _
           _ refl (copy-into .ensures) refl (c .if1 .taken),
-      part-keeps (start .pre .0) (start .pre .1) (start .fits .elements .fits) (start .pre .2) (send-read .ensures),
+      part-keeps (start .pre) (start .fits .elements .fits) (send-read .ensures),
       send-read .ensures .buffer-is,
     )
 
@@ -85,9 +73,9 @@ returns-2 c =
     let back = back .before .before .before .before .before .before .before .before in
     let send-read = back .send-read in
     let start = back .before .before .before .before .before .before .before .before .before .before in (
-      part-more (start .pre .0) (start .pre .1) (start .fits .elements .fits) (start .pre .2) (send-read .ensures) _ _ _
+      part-more (start .pre) (start .fits .elements .fits) (send-read .ensures) _ _ _
           _ refl (copy-into .ensures) refl (c .if1 .left),
-      part-keeps (start .pre .0) (start .pre .1) (start .fits .elements .fits) (start .pre .2) (send-read .ensures),
+      part-keeps (start .pre) (start .fits .elements .fits) (send-read .ensures),
       send-read .ensures .buffer-is,
     )
 

@@ -10,40 +10,28 @@ sub-copy-into : tie.Need-sub-copy-into
 sub-copy-into c =
     let back = c .before .before .before .before .before in let send-list = back .send-list in
     let start = back .before .before .before .before .before .before .before .before .before .before .before in
-    turn-inside _ _ (start .pre .0) (start .pre .1) (start .pre .2) (start .pre .3) (start .fits .start .fits)
+    turn-inside _ _ (start .pre) (start .fits .start .fits)
     (send-list .ensures) .0
 
 part-copy-into-start : tie.Need-part-copy-into-start
 part-copy-into-start c =
-    let send-list = c .before .before .before .before .before .before .send-list in
-    let pre = c .before .before .before .before .before .before .before .before .before .before .before .before .before
-    .before .before .before .before .pre in
-    let fits-at = c .before .before .before .before .before .before .before .before .before .before .before .before
-    .before .before .before .before .before .fits in
-    omega (
-      arith,
-      turn-inside _ _ (pre .0) (pre .1) (pre .2) (pre .3) (fits-at .start .fits) (send-list .ensures),
-      send-list .kept,
-    )
+    let i = (let back = c .before .before .before .before .before .before in
+    let start = back .before .before .before .before .before .before .before .before .before .before .before in
+    turn-inside _ _ (start .pre) (start .fits .start .fits) (back .send-list .ensures)) in
+    omega (arith, i, c .before .before .before .before .before .before .send-list .kept)
 
 part-copy-into-end : tie.Need-part-copy-into-end
 part-copy-into-end c =
-    let send-list = c .before .before .before .before .before .before .send-list in
-    let pre = c .before .before .before .before .before .before .before .before .before .before .before .before .before
-    .before .before .before .before .pre in
-    let fits-at = c .before .before .before .before .before .before .before .before .before .before .before .before
-    .before .before .before .before .before .fits in
-    omega (
-      arith,
-      turn-inside _ _ (pre .0) (pre .1) (pre .2) (pre .3) (fits-at .start .fits) (send-list .ensures),
-      send-list .kept,
-    )
+    let i = (let back = c .before .before .before .before .before .before in
+    let start = back .before .before .before .before .before .before .before .before .before .before .before in
+    turn-inside _ _ (start .pre) (start .fits .start .fits) (back .send-list .ensures)) in
+    omega (arith, i, c .before .before .before .before .before .before .send-list .kept)
 
 copy-into-requires : tie.Need-copy-into-requires
 copy-into-requires c κs =
     let back = c .before .before .before .before .before .before .before in let send-list = back .send-list in
     let start = back .before .before .before .before .before .before .before .before .before .before .before in
-    turn-fits _ _ (start .pre .0) (start .pre .1) (start .pre .2) (start .pre .3) (start .fits .start .fits)
+    turn-fits _ _ (start .pre) (start .fits .start .fits)
     (send-list .ensures)
 
 sub-end : tie.Need-sub-end
@@ -51,7 +39,7 @@ sub-end c =
     let back = c .before .before .before .before .before .before .before .before .before .before in
     let send-list = back .send-list in
     let start = back .before .before .before .before .before .before .before .before .before .before .before in
-    turn-inside _ _ (start .pre .0) (start .pre .1) (start .pre .2) (start .pre .3) (start .fits .start .fits)
+    turn-inside _ _ (start .pre) (start .fits .start .fits)
     (send-list .ensures) .0
 
 add-end : tie.Need-add-end
@@ -59,7 +47,7 @@ add-end c =
     let a = (let back = c .before .before .before .before .before .before .before .before .before .before in
     let send-list = back .send-list in
     let start = back .before .before .before .before .before .before .before .before .before .before .before in
-    turn-inside _ _ (start .pre .0) (start .pre .1) (start .pre .2) (start .pre .3) (start .fits .start .fits)
+    turn-inside _ _ (start .pre) (start .fits .start .fits)
     (send-list .ensures) .3) in
     let b = c .before .before .before .before .before .before .before .before .before .before .before .before .before
     .before .before .before .before .before .before .before .before .pre .4 in
@@ -71,11 +59,11 @@ returns c =
     let back = back .before .before .before .before .before .before .before .before in
     let send-list = back .send-list in
     let start = back .before .before .before .before .before .before .before .before .before .before .before in (
-      turn-last _ _ (start .pre .0) (start .pre .1) (start .pre .2) (start .pre .3) (start .fits .start .fits)
+      turn-last _ _ (start .pre) (start .fits .start .fits)
           (send-list .ensures) _ _ _ (copy-into .ensures) refl (c .if1 .taken),
-      turn-keeps _ (start .args .got) (start .pre .0) (start .pre .1) (start .pre .2) (start .pre .3)
+      turn-keeps _ (start .args .got) (start .pre)
           (start .fits .start .fits) (send-list .ensures),
-      lies _ (start .args .got) (start .pre .0) (start .pre .1) (start .pre .2) (start .pre .3)
+      lies _ (start .args .got) (start .pre)
           (start .fits .start .fits) (send-list .ensures),
     )
 
@@ -85,11 +73,11 @@ returns-2 c =
     let back = back .before .before .before .before .before .before .before .before in
     let send-list = back .send-list in
     let start = back .before .before .before .before .before .before .before .before .before .before .before in (
-      turn-more _ _ (start .pre .0) (start .pre .1) (start .pre .2) (start .pre .3) (start .fits .start .fits)
+      turn-more _ _ (start .pre) (start .fits .start .fits)
           (send-list .ensures) _ _ _ (copy-into .ensures) refl (c .if1 .left),
-      turn-keeps _ (start .args .got) (start .pre .0) (start .pre .1) (start .pre .2) (start .pre .3)
+      turn-keeps _ (start .args .got) (start .pre)
           (start .fits .start .fits) (send-list .ensures),
-      lies _ (start .args .got) (start .pre .0) (start .pre .1) (start .pre .2) (start .pre .3)
+      lies _ (start .args .got) (start .pre)
           (start .fits .start .fits) (send-list .ensures),
     )
 

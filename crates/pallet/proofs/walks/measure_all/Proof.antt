@@ -8,7 +8,7 @@ use Rattle.definition.specs.Bytes.{numbers}
 use Rattle.definition.specs.Symbols.{due}
 use Rattle.listing.specs.Entries.{EachValid}
 use Rattle.listing.proofs.Filled.{further-more}
-use Rattle.pallet.proofs.Walking.{Measuring, due-few, measure-none, measure-more, measure-full, measure-done, walk-kept}
+use Rattle.pallet.proofs.Walking.{Measuring, due-few, measure-none, measure-more, measure-few, measure-full, measure-done, walk-kept}
 use borrow.Author.Needs.{needs}
 use Rattle.pallet.proofs.walks.measure_all.Statement.{statement}
 use Rattle.pallet.proofs.walks.measure_all.Tie as tie
@@ -32,31 +32,17 @@ sub-total c =
 
 add-total : tie.Need-add-total Inv-loop μ-loop
 add-total c =
-    let w = c .before .before .before .before .before .before .before .before .before .before .before .before .pre .0 in
-    let f = (let page-step = c .before .before .before .before .before .page-step in
-    further-more _ _ _ (c .before .u .given .1) (page-step .ensures .1)) in
     let q = (let back = c .before .before .before .before .before in
-    let page-step = back .page-step in
-    let loop = back .before .before .loop in
     let pre = back .before .before .before .before .before .before .before .pre in
-    measure-more _ _ _ _ _ _ _ _ (loop .inv .1 (w .members) (w .programs) (w .templates) (w .memory) (w .ok)) _ _
-    (page-step .ensures .0 (w .members) (w .programs) (w .templates) (w .memory) (w .ok)) (pre .4)
-    (c .before .u .given .1) .1) in
+    measure-few (pre .0) (back .before .before .loop .inv .1) (back .page-step .ensures) (pre .4) (c .before .u .given .1)) in
     search needs
 
 loop-less : tie.Need-loop-less Inv-loop μ-loop
 loop-less c =
-    let w = c .before .before .before .before .before .before .before .before .before .before .before .before .pre .0 in
-    let f = (let page-step = c .before .before .before .before .before .page-step in
-    further-more _ _ _ (c .before .u .given .1) (page-step .ensures .1)) in
     let q = (let back = c .before .before .before .before .before in
-    let page-step = back .page-step in
-    let loop = back .before .before .loop in
     let pre = back .before .before .before .before .before .before .before .pre in
-    measure-more _ _ _ _ _ _ _ _ (loop .inv .1 (w .members) (w .programs) (w .templates) (w .memory) (w .ok)) _ _
-    (page-step .ensures .0 (w .members) (w .programs) (w .templates) (w .memory) (w .ok)) (pre .4)
-    (c .before .u .given .1) .1) in
-    omega (arith, f .0, q)
+    measure-few (pre .0) (back .before .before .loop .inv .1) (back .page-step .ensures) (pre .4) (c .before .u .given .1)) in
+    omega (arith, q .0, q .1)
 
 loop-again : tie.Need-loop-again Inv-loop μ-loop
 loop-again c =
