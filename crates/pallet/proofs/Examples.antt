@@ -10,7 +10,7 @@ use Rattle.definition.specs.Computed.{compute}
 use Rattle.continued.specs.Point3.{readRequest}
 use Rattle.pallet.specs.declared.Whole.the-variants.{Joined, TooShort, TooNarrow, Turned, Refused, Unsendable}
 use Rattle.pallet.specs.Whole.{chosen, Received, received, wholeOf, wholeRead}
-use Rattle.pallet.specs.Lists.{scopeOf, entriesOf, scopePath, listPath, listRequest, Listed, listed, longest, wholeOfList, wholeList, lastListed}
+use Rattle.pallet.specs.Lists.{scopeOf, entriesOf, scopePath, listPath, listRequest, longest, wholeOfList, wholeList}
 
 -- a path and an element count; the limit, the reply buffer's length, and the lent buffer's
 abbrev whole : (path : List ℕ) (elements limit buffer out : ℕ) → Received
@@ -58,8 +58,9 @@ whole-reads = refl
 -- ---- whole lists: IDs and types of the bench's three symbols, of which the last has the highest ID that there is
 
 -- a program's name and a list of attributes; the limit, the reply buffer's length, and the lent buffer's
-abbrev whole-list : (program attributes : List ℕ) (limit buffer out : ℕ) → Listed
-whole-list program attributes limit buffer out = wholeList pallet palletFlags palletStart program attributes limit buffer (replicate out 0xEE)
+abbrev whole-list : (program attributes : List ℕ) (limit buffer out : ℕ) → Received
+whole-list program attributes limit buffer out =
+    wholeList pallet palletFlags palletStart program attributes limit (replicate buffer 0xDD) (replicate out 0xEE)
 
 -- attribute 2 alone
 abbrev types : List ℕ
@@ -68,7 +69,7 @@ types = 1 ∷ 0 ∷ 2 ∷ 0 ∷ []
 abbrev symbols : List ℕ
 symbols = 1 ∷ 0 ∷ 0 ∷ 0 ∷ 0xC4 ∷ 0x00 ∷ 2 ∷ 0 ∷ 0 ∷ 0 ∷ 0xC4 ∷ 0x20 ∷ 0xFF ∷ 0xFF ∷ 0xFF ∷ 0xFF ∷ 0x00 ∷ 0x81 ∷ []
 
-list-outcomes : List Listed
+list-outcomes : List Received
 list-outcomes =
     whole-list [] types 10 10 20
     ∷ whole-list [] types 100 100 18
@@ -77,36 +78,26 @@ list-outcomes =
     ∷ whole-list (0x50 ∷ []) types 100 100 18
     ∷ whole-list [] (2 ∷ 0 ∷ 2 ∷ 0 ∷ []) 100 100 18
     ∷ whole-list [] (1 ∷ 0 ∷ 4 ∷ 0 ∷ []) 100 100 18
-    ∷ whole-list [] types 65536 65536 18
+    ∷ whole-list [] types 65536 22 18
     ∷ whole-list [] types 10 9 18
     ∷ whole-list (replicate 256 0x50) types 100 100 18
     ∷ []
 
-lists-expected : List Listed
+-- the last of three pages brings the last symbol, the only one of one page all of them
+lists-expected : List Received
 lists-expected =
-    listed (Joined 18) (symbols ++ unjoined 2)
-    ∷ listed (Joined 18) symbols
-    ∷ listed (TooShort 18) (unjoined 17)
-    ∷ listed TooNarrow (unjoined 18)
-    ∷ listed (Turned 0x05) (unjoined 18)
-    ∷ listed (Turned 0x13) (unjoined 18)
-    ∷ listed (Turned 0x14) (unjoined 18)
-    ∷ listed (Refused 2) (unjoined 18)
-    ∷ listed (Refused 3) (unjoined 18)
-    ∷ listed Unsendable (unjoined 18)
+    received (Joined 18) (symbols ++ unjoined 2) (0xD5 ∷ 0 ∷ 0 ∷ 0 ∷ 0xFF ∷ 0xFF ∷ 0xFF ∷ 0xFF ∷ 0x00 ∷ 0x81 ∷ [])
+    ∷ received (Joined 18) symbols ((0xD5 ∷ 0 ∷ 0 ∷ 0 ∷ symbols) ++ replicate 78 0)
+    ∷ received (TooShort 18) (unjoined 17) (unsent 100)
+    ∷ received TooNarrow (unjoined 18) (unsent 9)
+    ∷ received (Turned 0x05) (unjoined 18) ((0xD5 ∷ 0 ∷ 0x05 ∷ 0 ∷ []) ++ replicate 96 0)
+    ∷ received (Turned 0x13) (unjoined 18) ((0xD5 ∷ 0 ∷ 0x13 ∷ 0 ∷ []) ++ replicate 96 0)
+    ∷ received (Turned 0x14) (unjoined 18) ((0xD5 ∷ 0 ∷ 0x14 ∷ 0 ∷ []) ++ replicate 96 0)
+    ∷ received (Refused 2) (unjoined 18) (unsent 22)
+    ∷ received (Refused 3) (unjoined 18) (unsent 9)
+    ∷ received Unsendable (unjoined 18) (unsent 100)
     ∷ []
 
 whole-lists : list-outcomes ≡ lists-expected
-unfolding list-outcomes lists-expected compute pallet palletFlags palletMemory palletStart upFrom scopeOf entriesOf scopePath listPath listRequest longest wholeOfList wholeList
+unfolding list-outcomes lists-expected compute pallet palletFlags palletMemory palletStart upFrom scopeOf entriesOf scopePath listPath listRequest longest until wholeOfList wholeList
 whole-lists = refl
-
--- the last of three pages brings the last symbol, the only one of one page all of them; no page is granted
-last-pages : List (List ℕ)
-last-pages = lastListed 10 (entriesOf pallet [] types) ∷ lastListed 22 (entriesOf pallet [] types) ∷ lastListed 22 (entriesOf pallet (0x50 ∷ []) types) ∷ []
-
-last-expected : List (List ℕ)
-last-expected = (0xD5 ∷ 0 ∷ 0 ∷ 0 ∷ 0xFF ∷ 0xFF ∷ 0xFF ∷ 0xFF ∷ 0x00 ∷ 0x81 ∷ []) ∷ (0xD5 ∷ 0 ∷ 0 ∷ 0 ∷ symbols) ∷ [] ∷ []
-
-pages-last : last-pages ≡ last-expected
-unfolding last-pages last-expected compute pallet palletFlags palletMemory palletStart upFrom scopeOf entriesOf until
-pages-last = refl

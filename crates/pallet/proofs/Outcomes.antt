@@ -9,11 +9,9 @@ use native.Mathlib.Omega.{arith}
 use lib.Dec.{leb}
 use lib.ListN.{length, getD, drop}
 use borrow.Author.Tests.{leb-true, lt-ltb, le-ltb, eq-eqb, ne-eqb}
-use Rattle.laws.specs.Put.{laid, KeptFrom}
+use Rattle.laws.specs.Put.{laid}
 use Rattle.laws.specs.Tests.{every}
 use Rattle.laws.proofs.Chain.{by-test, clash}
-use Rattle.laws.proofs.Put.{kept-less}
-use Rattle.laws.proofs.Parts.{laid-drop}
 use Rattle.laws.proofs.Tests.{among, both-none}
 use Rattle.definition.specs.Bytes.{numbers, counted}
 use Rattle.definition.specs.Reply.{room}
@@ -37,8 +35,8 @@ use Rattle.pallet.specs.declared.lists.Asked.{Asked}
 use Rattle.pallet.specs.declared.lists.Asked.the-variants as asked
 use Rattle.pallet.specs.declared.walks.Measure.{Measure}
 use Rattle.pallet.specs.declared.walks.Measure.the-variants.{Total, Narrow}
-use Rattle.pallet.specs.Lists.{scopeNamed, scopeOf, entriesIn, entriesOf, firstPage, Listed, listed, longest, wholeOfList, wholeList}
-use Rattle.pallet.specs.Lists.{lastPage, lastListed}
+use Rattle.pallet.specs.Whole.{Received, received}
+use Rattle.pallet.specs.Lists.{scopeNamed, scopeOf, entriesIn, entriesOf, firstPage, longest, lastPage, wholeOfList, wholeList}
 use Rattle.pallet.specs.Turns.{inScope, scopeBy, acceptedBy, acceptedIn, askedBy, Askable, Granted, Measured}
 
 -- ---- the scope
@@ -182,17 +180,14 @@ few-scopes t memory v = omega (arith, leb-true (length (t .programs)) 16 (among 
 
 -- ---- what it comes to
 
-pub list-turned : {o : Option (List Entry)} {x : ℕ} (first : List ℕ) (limit : ℕ) (out : List ℕ) → o ≡ none → x ≡ getD first 2 0
-    → listed (Turned x) out ≡ wholeOfList o first limit out
+pub list-turned : {o : Option (List Entry)} {x : ℕ} (first : List ℕ) (limit : ℕ) {new : List ℕ} (old out : List ℕ) → o ≡ none → x ≡ getD first 2 0
+    → new ≡ laid (room limit) old first → received (Turned x) out new ≡ wholeOfList o first limit old out
 unfolding wholeOfList
-list-turned first limit out e k = rw (e, k) refl
+list-turned first limit old out e k b = rw (e, k, b) refl
 
 pub list-total : (entries : List Entry) (limit : ℕ) {v : Measure} {total : ℕ} → Measured entries limit v → v ≡ Total total
     → (total ≡ length (bytesOf entries)) × (4 + longest entries ≤ limit)
 list-total entries limit measured q = rw q at measured
-
-pub measured-kept : (limit : ℕ) (old new : List ℕ) → KeptFrom limit old new → KeptFrom (room limit) old new
-measured-kept limit old new k = kept-less limit (room limit) old new (omega arith) k
 
 module _ {t : Tables} {program attributes : List ℕ} {scope n : ℕ} (g : Granted t program attributes scope n) where
   abbrev entries : List Entry
@@ -202,47 +197,40 @@ module _ {t : Tables} {program attributes : List ℕ} {scope n : ℕ} (g : Grant
   unfolding entriesOf
   entries-are = rw (g .scope-is, g .numbers-are, g .accepted)
 
-  -- the entries were measured in the buffer before the pages were laid into it
-  pub list-laid : (limit : ℕ) (old measured new : List ℕ) → KeptFrom limit old measured
-      → new ≡ laid (room limit) measured (pageReply 0x55 (lastPage limit entries) limit)
-      → new ≡ laid (room limit) old (lastListed limit (entriesOf t program attributes))
-  list-laid limit old measured new k e =
-      rw entries-are (e ∙ laid-drop (room limit) measured old _ (measured-kept limit old measured k .0))
+  module _ (first : List ℕ) (limit : ℕ) (buffer out : List ℕ) where
+    abbrev whole : Received
+    whole = wholeOfList (entriesOf t program attributes) first limit buffer out
 
-  module _ (first : List ℕ) (limit : ℕ) (out : List ℕ) where
-    abbrev whole : Listed
-    whole = wholeOfList (entriesOf t program attributes) first limit out
-
-    narrow-by : limit < 4 + longest entries → listed TooNarrow out ≡ whole
+    narrow-by : limit < 4 + longest entries → received TooNarrow out buffer ≡ whole
     unfolding wholeOfList
     narrow-by h = rw (entries-are, lt-ltb limit (4 + longest entries) h) refl
 
-    pub list-tiny : limit < 4 → listed TooNarrow out ≡ whole
+    pub list-tiny : limit < 4 → received TooNarrow out buffer ≡ whole
     list-tiny h = narrow-by (omega arith)
 
     module _ {v : Measure} (measured : Measured entries limit v) where
-      pub list-narrow : v ≡ Narrow → listed TooNarrow out ≡ whole
+      pub list-narrow : v ≡ Narrow → received TooNarrow out buffer ≡ whole
       list-narrow q = narrow-by (rw q at measured)
 
       module _ {total : ℕ} (q : v ≡ Total total) where
-        pub list-short : length out < total → listed (TooShort total) out ≡ whole
+        pub list-short : length out < total → received (TooShort total) out buffer ≡ whole
         unfolding wholeOfList
         list-short h =
             let a = list-total entries limit measured q in
             rw (entries-are, le-ltb limit (4 + longest entries) (a .1), ← a .0, lt-ltb (length out) total h) refl
 
-        pub list-joined : {r : ℕ} {filled : List ℕ} → total ≤ length out → Written 0 (bytesOf entries) out r filled
-            → listed (Joined r) filled ≡ whole
+        pub list-joined : {r : ℕ} {filled new : List ℕ} → total ≤ length out → Written 0 (bytesOf entries) out r filled
+            → new ≡ laid (room limit) buffer (pageReply 0x55 (lastPage limit entries) limit) → received (Joined r) filled new ≡ whole
         unfolding wholeOfList
-        list-joined h w =
+        list-joined h w b =
             let a = list-total entries limit measured q in
             let fits = le-ltb (length out) (length (bytesOf entries)) (omega (arith, a .0)) in
-            rw (entries-are, w .buffer-is, w .length-is, le-ltb limit (4 + longest entries) (a .1), fits) refl
+            rw (entries-are, w .buffer-is, w .length-is, b, le-ltb limit (4 + longest entries) (a .1), fits) refl
 
 -- an askable list is not turned away before anything is asked for
-module _ {t : Tables} (f : Flags) {memory program attributes : List ℕ} {limit buffer : ℕ} (out : List ℕ) (v : Listed)
-    (a : Askable t memory program attributes limit buffer) where
-  pub list-entered : v ≡ wholeOfList (entriesOf t program attributes) (firstPage t f memory program attributes limit) limit out
+module _ {t : Tables} (f : Flags) {memory program attributes : List ℕ} {limit : ℕ} (buffer out : List ℕ) (v : Received)
+    (a : Askable t memory program attributes limit (length buffer)) where
+  pub list-entered : v ≡ wholeOfList (entriesOf t program attributes) (firstPage t f memory program attributes limit) limit buffer out
       → v ≡ wholeList t f memory program attributes limit buffer out
   unfolding wholeList
-  list-entered e = rw (a .askable, le-ltb 65535 limit (a .limit-fits), le-ltb buffer (room limit) (a .has-room), a .tables) e
+  list-entered e = rw (a .askable, le-ltb 65535 limit (a .limit-fits), le-ltb (length buffer) (room limit) (a .has-room), a .tables) e

@@ -1,6 +1,5 @@
 -- A whole list: the continued symbol pages of document 01's point 3, asked for by the program itself. What it comes to, and what the lent
 -- buffer and the reply buffer hold afterwards: the joined bytes are the entries of all symbols of the scope, ascending by ID, whatever the limit.
-use mathlib.Core.Path.{_≡_}
 use mathlib.Core.Bool.{Bool, not}
 use mathlib.Core.List.{List, [], _∷_, _++_}
 use mathlib.Core.Option.{Option, none, some}
@@ -8,7 +7,7 @@ use Prim.Native.Nat.{ℕ, suc, _+_, _-_, _/_, _%_, max}
 use lib.Dec.{ltb, leb, eqb}
 use lib.ListN.{length, getD, drop}
 use Rattle.laws.specs.Pick.{pick, both}
-use Rattle.laws.specs.Put.{put, laid, KeptFrom}
+use Rattle.laws.specs.Put.{put, laid}
 use Rattle.laws.specs.Tests.{every}
 use Rattle.laws.specs.Until.{until}
 use Rattle.definition.specs.Bytes.{le32, counted}
@@ -19,8 +18,8 @@ use Rattle.definition.specs.Valid.{valid}
 use Rattle.definition.specs.Page.{Entry, bytesOf, fitting, pageReply}
 use Rattle.definition.specs.Symbols.{isListed, due}
 use Rattle.definition.specs.Answer.{answer}
-use Rattle.pallet.specs.declared.Whole.{Whole}
 use Rattle.pallet.specs.declared.Whole.the-variants.{Joined, TooShort, TooNarrow, Turned, Refused, Unsendable}
+use Rattle.pallet.specs.Whole.{Received, received}
 
 -- ---- what is asked for
 
@@ -68,36 +67,9 @@ firstPage t f memory program attributes limit = answer t f memory (listRequest p
 
 -- ---- what the whole list comes to
 
-pub record Listed : Type 0 where
-  pub result : Whole
-  pub out : List ℕ
-
-abbrev pub listed : Whole → (out : List ℕ) → Listed
-listed result out = record { result = result; out = out }
-
 unfoldable pub longest : List Entry → ℕ
 longest [] = 0
 longest (e ∷ es) = max (length (e .bytes)) (longest es)
-
--- `first`: the reply to a page from ID 0 on, the only one where no page is granted; its third byte is the general status
-unfoldable pub wholeOfList : Option (List Entry) → (first : List ℕ) (limit : ℕ) (out : List ℕ) → Listed
-wholeOfList none first limit out = listed (Turned (getD first 2 0)) out
-wholeOfList (some entries) first limit out =
-    let bytes = bytesOf entries in
-    pick (ltb limit (4 + longest entries)) (listed TooNarrow out)
-    (pick (ltb (length out) (length bytes)) (listed (TooShort (length bytes)) out)
-    (listed (Joined (length bytes)) (put out 0 bytes)))
-
--- `buffer` is the reply buffer's length
-unfoldable pub wholeList : Tables → Flags → (memory program attributes : List ℕ) (limit buffer : ℕ) (out : List ℕ) → Listed
-wholeList t f memory program attributes limit buffer out =
-    pick (not (isAskable program attributes)) (listed Unsendable out)
-    (pick (ltb 65535 limit) (listed (Refused 2) out)
-    (pick (ltb buffer (room limit)) (listed (Refused 3) out)
-    (pick (not (valid t (length memory))) (listed (Refused 4) out)
-    (wholeOfList (entriesOf t program attributes) (firstPage t f memory program attributes limit) limit out))))
-
--- ---- what the reply buffer holds afterwards
 
 -- what a page leaves due
 abbrev pub behind : (limit : ℕ) → List Entry → List Entry
@@ -107,16 +79,20 @@ behind limit entries = drop (fitting (limit - 4) entries) entries
 abbrev pub lastPage : (limit : ℕ) → List Entry → List Entry
 lastPage limit entries = until (λ es. eqb (fitting (limit - 4) es) (length es)) (behind limit) (length entries) entries
 
--- the last of the pages that bring all entries
-abbrev pub lastListed : (limit : ℕ) → Option (List Entry) → List ℕ
-lastListed limit none = []
-lastListed limit (some entries) = pageReply 0x55 (lastPage limit entries) limit
+-- `first`: the reply to a page from ID 0 on, the only one where no page is granted; its third byte is the general status
+unfoldable pub wholeOfList : Option (List Entry) → (first : List ℕ) (limit : ℕ) (buffer out : List ℕ) → Received
+wholeOfList none first limit buffer out = received (Turned (getD first 2 0)) out (laid (room limit) buffer first)
+wholeOfList (some entries) first limit buffer out =
+    let bytes = bytesOf entries in
+    pick (ltb limit (4 + longest entries)) (received TooNarrow out buffer)
+    (pick (ltb (length out) (length bytes)) (received (TooShort (length bytes)) out buffer)
+    (received (Joined (length bytes)) (put out 0 bytes) (laid (room limit) buffer (pageReply 0x55 (lastPage limit entries) limit))))
 
--- as it was where nothing was done; free up to max(8, limit) where entries were measured there and no page asked for; else the last reply
-abbrev pub ListBuffer : (limit : ℕ) (first last old : List ℕ) → Whole → (new : List ℕ) → Type 0
-ListBuffer limit first last old (Joined n) new = new ≡ laid (room limit) old last
-ListBuffer limit first last old (TooShort n) new = KeptFrom (room limit) old new
-ListBuffer limit first last old TooNarrow new = KeptFrom (room limit) old new
-ListBuffer limit first last old (Turned status) new = new ≡ laid (room limit) old first
-ListBuffer limit first last old (Refused number) new = new ≡ old
-ListBuffer limit first last old Unsendable new = new ≡ old
+-- `buffer` is the reply buffer; where nothing is sent, it stays as it was
+unfoldable pub wholeList : Tables → Flags → (memory program attributes : List ℕ) (limit : ℕ) (buffer out : List ℕ) → Received
+wholeList t f memory program attributes limit buffer out =
+    pick (not (isAskable program attributes)) (received Unsendable out buffer)
+    (pick (ltb 65535 limit) (received (Refused 2) out buffer)
+    (pick (ltb (length buffer) (room limit)) (received (Refused 3) out buffer)
+    (pick (not (valid t (length memory))) (received (Refused 4) out buffer)
+    (wholeOfList (entriesOf t program attributes) (firstPage t f memory program attributes limit) limit buffer out))))

@@ -11,7 +11,8 @@ ghost use mathlib.Core.Path.{_≡_};
 ghost use Prim.Native.Nat.{_≤_};
 ghost use lib.ListN.{length};
 ghost use Rattle.model.specs.Tables.{tablesOf, flagsOf};
-ghost use Rattle.pallet.specs.Lists.{entriesOf, firstPage, listed, wholeOfList, wholeList, lastListed, ListBuffer};
+ghost use Rattle.pallet.specs.Whole.{received};
+ghost use Rattle.pallet.specs.Lists.{entriesOf, firstPage, wholeOfList, wholeList};
 ghost use Rattle.pallet.specs.Turns.{inScope, scopeBy, acceptedIn, askedBy, Askable, Granted};
 
 /// A scope: 0 is the controller's, a program's is its position plus one.
@@ -94,14 +95,14 @@ fn list_granted(
     requires { ⌜ Askable (tablesOf (now structures) (now members) (now programs) (now tags) (now others) (now names) (now «tag_names») (now templates)) (now memory) (now program) (now attributes) limit (length (now buf)) × Granted (tablesOf (now structures) (now members) (now programs) (now tags) (now others) (now names) (now «tag_names») (now templates)) (now program) (now attributes) scope n ⌝ }
     ensures { λ r. let t = tablesOf (now (structures .entry)) (now (members .entry)) (now (programs .entry)) (now (tags .entry))
         (now (others .entry)) (now (names .entry)) (now («tag_names» .entry)) (now (templates .entry)) in
-        let o = entriesOf t (now (program .entry)) (now (attributes .entry)) in
         let first = firstPage t (flagsOf flags) (now (memory .entry)) (now (program .entry)) (now (attributes .entry)) limit in
-        ⌜ (listed r (now (out .exit)) ≡ wholeOfList o first limit (now (out .entry))) × (now (memory .exit) ≡ now (memory .entry)) × ListBuffer limit first (lastListed limit o) (now (buf .entry)) r (now (buf .exit)) ⌝ }
+        let whole = wholeOfList (entriesOf t (now (program .entry)) (now (attributes .entry))) first limit (now (buf .entry)) (now (out .entry)) in
+        ⌜ (received r (now (out .exit)) (now (buf .exit)) ≡ whole) × (now (memory .exit) ≡ now (memory .entry)) ⌝ }
 {
     if limit < HEADER {
         return Whole::TooNarrow;
     }
-    let Measure::Total(total) = walks::measure_all(
+    let Measure::Total(total) = walks::measured(
         structures,
         tags,
         others,
@@ -111,7 +112,6 @@ fn list_granted(
         attributes,
         n,
         limit,
-        buf,
     ) else {
         return Whole::TooNarrow;
     };
@@ -160,9 +160,9 @@ fn list_askable(
     requires { ⌜ Askable (tablesOf (now structures) (now members) (now programs) (now tags) (now others) (now names) (now «tag_names») (now templates)) (now memory) (now program) (now attributes) limit (length (now buf)) ⌝ }
     ensures { λ r. let t = tablesOf (now (structures .entry)) (now (members .entry)) (now (programs .entry)) (now (tags .entry))
         (now (others .entry)) (now (names .entry)) (now («tag_names» .entry)) (now (templates .entry)) in
-        let o = entriesOf t (now (program .entry)) (now (attributes .entry)) in
         let first = firstPage t (flagsOf flags) (now (memory .entry)) (now (program .entry)) (now (attributes .entry)) limit in
-        ⌜ (listed r (now (out .exit)) ≡ wholeOfList o first limit (now (out .entry))) × (now (memory .exit) ≡ now (memory .entry)) × ListBuffer limit first (lastListed limit o) (now (buf .entry)) r (now (buf .exit)) ⌝ }
+        let whole = wholeOfList (entriesOf t (now (program .entry)) (now (attributes .entry))) first limit (now (buf .entry)) (now (out .entry)) in
+        ⌜ (received r (now (out .exit)) (now (buf .exit)) ≡ whole) × (now (memory .exit) ≡ now (memory .entry)) ⌝ }
 {
     let Asked::Of(scope, n) = asked_of(programs, names, program, attributes) else {
         return Whole::Turned(pages::first_page(
@@ -205,7 +205,7 @@ fn list_askable(
 
 /// Lists all symbols of a scope into `out`: asks for pages, each from the last listed ID plus one, and joins their entries until
 /// status 0, or says why not. `program` is empty for the controller's scope, `attributes` is the request's data, and `buf` is the
-/// reply buffer: entries are measured in it before anything is sent, and the last reply stays in it.
+/// reply buffer: the last reply stays in it, and where nothing is sent it is as it was.
 pub fn list_whole(
     structures: &[[u32; 10]],
     members: &[[u32; 9]],
@@ -225,9 +225,8 @@ pub fn list_whole(
 ) -> Whole
     ensures { λ r. let t = tablesOf (now (structures .entry)) (now (members .entry)) (now (programs .entry)) (now (tags .entry))
         (now (others .entry)) (now (names .entry)) (now («tag_names» .entry)) (now (templates .entry)) in
-        let o = entriesOf t (now (program .entry)) (now (attributes .entry)) in
-        let first = firstPage t (flagsOf flags) (now (memory .entry)) (now (program .entry)) (now (attributes .entry)) limit in
-        ⌜ (listed r (now (out .exit)) ≡ wholeList t (flagsOf flags) (now (memory .entry)) (now (program .entry)) (now (attributes .entry)) limit (length (now (buf .entry))) (now (out .entry))) × (now (memory .exit) ≡ now (memory .entry)) × ListBuffer limit first (lastListed limit o) (now (buf .entry)) r (now (buf .exit)) ⌝ }
+        let whole = wholeList t (flagsOf flags) (now (memory .entry)) (now (program .entry)) (now (attributes .entry)) limit (now (buf .entry)) (now (out .entry)) in
+        ⌜ (received r (now (out .exit)) (now (buf .exit)) ≡ whole) × (now (memory .exit) ≡ now (memory .entry)) ⌝ }
 {
     if !pages::is_askable(program, attributes) {
         return Whole::Unsendable;

@@ -75,6 +75,36 @@ pub fn measure_all(
     }
 }
 
+/// The same, with a scratch of its own: the reply buffer stays as it was as long as nothing is sent.
+pub fn measured(
+    structures: &[[u32; 10]],
+    tags: &[[u32; 12]],
+    others: &[[u32; 5]],
+    names: &[u8],
+    tag_names: &[u8],
+    scope: u32,
+    body: &[u8],
+    n: usize,
+    limit: usize,
+) -> Measure
+    requires { ⌜ SomeValid (now structures) (now tags) (now others) (now names) (now «tag_names») × (2 + 2 * n ≤ length (now body)) × (n ≤ 65535) × (4 ≤ limit) × (limit ≤ 65535) ⌝ }
+    ensures { λ r. ⌜ EachValid (now (structures .entry)) (now (tags .entry)) (now (others .entry)) (now (names .entry)) (now («tag_names» .entry)) (λ t. Measured (due t scope (numbers n (drop 2 (now (body .entry)))) 0) limit r) ⌝ }
+{
+    let mut scratch = [0u8; 65535];
+    measure_all(
+        structures,
+        tags,
+        others,
+        names,
+        tag_names,
+        scope,
+        body,
+        n,
+        limit,
+        &mut scratch,
+    )
+}
+
 /// The last listed ID plus one, behind a page of so many bytes: its entries are passed once more.
 fn next_bound(
     structures: &[[u32; 10]],

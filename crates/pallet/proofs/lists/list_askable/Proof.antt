@@ -14,9 +14,8 @@ returns c =
     let back = c .before .before .before .before in let first-page = back .first-page in
     let enum-told = back .before .before .before .enum-told in
     let asked-of = back .before .before .before .before .before .asked-of in (
-      list-turned _ _ _ (asked-nothing _ _ _ (asked-of .ensures) (enum-told .given .1)) (first-page .ensures .0),
+      list-turned _ _ _ _ (asked-nothing _ _ _ (asked-of .ensures) (enum-told .given .1)) (first-page .ensures .0) (first-page .ensures .2),
       first-page .ensures .1,
-      first-page .ensures .2,
     )
 
 list-granted-requires : tie.Need-list-granted-requires

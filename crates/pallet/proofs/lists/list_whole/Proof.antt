@@ -14,11 +14,11 @@ use Rattle.pallet.proofs.lists.list_whole.Tie as tie
 
 returns : tie.Need-returns
 unfolding wholeList
-returns c = let s = ap not (c .before .is-askable .ensures) in (search (chain, by-call), refl, refl)
+returns c = let s = ap not (c .before .is-askable .ensures) in (search (chain, by-call), refl)
 
 returns-2 : tie.Need-returns-2
 unfolding wholeList
-returns-2 c = let s = ap not (c .before .before .is-askable .ensures) in (search (chain, by-call), refl, refl)
+returns-2 c = let s = ap not (c .before .before .is-askable .ensures) in (search (chain, by-call), refl)
 
 returns-3 : tie.Need-returns-3
 unfolding wholeList
@@ -29,7 +29,7 @@ returns-3 c =
     let s = ap not (is-askable .ensures) in
     let b = lt-ltb (length (args .buf .now)) (room (args .limit))
     (omega (arith, c .before .room-of .ensures, c .if3 .taken)) in
-    (search (chain, by-call), refl, refl)
+    (search (chain, by-call), refl)
 
 returns-4 : tie.Need-returns-4
 unfolding wholeList
@@ -42,7 +42,7 @@ returns-4 c =
     let s = ap not (is-askable .ensures) in
     let b = le-ltb (length (args .buf .now)) (room (args .limit)) (omega (arith, room-of .ensures, if3 .left)) in
     let v = ap not (c .before .valid .ensures) in
-    (search (chain, by-call), refl, refl)
+    (search (chain, by-call), refl)
 
 list-askable-requires : tie.Need-list-askable-requires
 list-askable-requires c κs =
@@ -75,14 +75,13 @@ returns-5 c =
     .before .before .before .if1 in
     let is-askable = c .before .before .before .before .before .before .before .before .before .before .before .before
     .before .before .before .before .before .is-askable in (
-      list-entered _ _ _ (record {
+      list-entered _ _ _ _ (record {
         askable = sym (is-askable .ensures) ∙ not-false _ (if1 .left);
         limit-fits = if2 .left;
         has-room = omega (arith, room-of .ensures, if3 .left);
         tables = sym (valid .ensures) ∙ not-false _ (if4 .left);
       }) (list-askable .ensures .0),
       list-askable .ensures .1,
-      list-askable .ensures .2,
     )
 
 pub list-whole-spec : {M : Type 1} → statement M
