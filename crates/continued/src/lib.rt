@@ -1,1 +1,1 @@
-// Point 3 of document 01 on whole lists of messages: the statements in specs/, their proofs in proofs/; no code.
+// Point 3 on whole lists of messages and other events: the statements in specs/, their proofs in proofs/; no code.

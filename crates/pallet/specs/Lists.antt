@@ -1,4 +1,4 @@
--- A whole list: the continued symbol pages of document 01's point 3, asked for by the program itself. What it comes to, and what the lent
+-- A whole list: the continued symbol pages of point 3, asked for by the program itself. What it comes to, and what the lent
 -- buffer and the reply buffer hold afterwards: the joined bytes are the entries of all symbols of the scope, ascending by ID, whatever the limit.
 use mathlib.Core.Bool.{Bool, not}
 use mathlib.Core.List.{List, [], _∷_, _++_}

@@ -1,4 +1,4 @@
--- A whole read: the continued read of document 01's point 3, done by the program itself. What it comes to, and what the lent buffer and the
+-- A whole read: the continued read of point 3, done by the program itself. What it comes to, and what the lent buffer and the
 -- reply buffer hold afterwards: the joined bytes are the selected ones, whatever the limit, and the last reply stays in the reply buffer.
 use mathlib.Core.Bool.{Bool, false, not}
 use mathlib.Core.List.{List}
