@@ -157,7 +157,8 @@ module _ {t : Tables} (f : Flags) {m program attributes : List ℕ} {limit buffe
   short = askable-short program attributes (p .0 .askable) .0
 
   reply-is : answer t f m (listRequest program attributes start) limit .reply ≡ pageReply 0x55 entries limit
-  reply-is = list-granted t f m program attributes start limit short small scope (numbers n (drop 2 attributes)) (p .1 .scope-is) (p .1 .numbers-are) (p .1 .accepted)
+  reply-is =
+      list-granted t f m program attributes start limit short small scope (numbers n (drop 2 attributes)) (p .1 .scope-is) (p .1 .numbers-are) (p .1 .accepted)
 
   size-is : size ≡ length (pageReply 0x55 entries limit)
   size-is = r .length-is ∙ ap (λ (l : List ℕ). length l) reply-is

@@ -10,8 +10,7 @@ sub-copy-into : tie.Need-sub-copy-into
 sub-copy-into c =
     let back = c .before .before .before .before .before in let send-list = back .send-list in
     let start = back .before .before .before .before .before .before .before .before .before .before .before in
-    turn-inside _ _ (start .pre) (start .fits .start .fits)
-    (send-list .ensures) .0
+    turn-inside _ _ (start .pre) (start .fits .start .fits) (send-list .ensures) .0
 
 part-copy-into-start : tie.Need-part-copy-into-start
 part-copy-into-start c =
@@ -31,24 +30,21 @@ copy-into-requires : tie.Need-copy-into-requires
 copy-into-requires c κs =
     let back = c .before .before .before .before .before .before .before in let send-list = back .send-list in
     let start = back .before .before .before .before .before .before .before .before .before .before .before in
-    turn-fits _ _ (start .pre) (start .fits .start .fits)
-    (send-list .ensures)
+    turn-fits _ _ (start .pre) (start .fits .start .fits) (send-list .ensures)
 
 sub-end : tie.Need-sub-end
 sub-end c =
     let back = c .before .before .before .before .before .before .before .before .before .before in
     let send-list = back .send-list in
     let start = back .before .before .before .before .before .before .before .before .before .before .before in
-    turn-inside _ _ (start .pre) (start .fits .start .fits)
-    (send-list .ensures) .0
+    turn-inside _ _ (start .pre) (start .fits .start .fits) (send-list .ensures) .0
 
 add-end : tie.Need-add-end
 add-end c =
     let a = (let back = c .before .before .before .before .before .before .before .before .before .before in
     let send-list = back .send-list in
     let start = back .before .before .before .before .before .before .before .before .before .before .before in
-    turn-inside _ _ (start .pre) (start .fits .start .fits)
-    (send-list .ensures) .3) in
+    turn-inside _ _ (start .pre) (start .fits .start .fits) (send-list .ensures) .3) in
     let b = c .before .before .before .before .before .before .before .before .before .before .before .before .before
     .before .before .before .before .before .before .before .before .pre .4 in
     search needs
@@ -59,12 +55,9 @@ returns c =
     let back = back .before .before .before .before .before .before .before .before in
     let send-list = back .send-list in
     let start = back .before .before .before .before .before .before .before .before .before .before .before in (
-      turn-last _ _ (start .pre) (start .fits .start .fits)
-          (send-list .ensures) _ _ _ (copy-into .ensures) refl (c .if1 .taken),
-      turn-keeps _ (start .args .got) (start .pre)
-          (start .fits .start .fits) (send-list .ensures),
-      lies _ (start .args .got) (start .pre)
-          (start .fits .start .fits) (send-list .ensures),
+      turn-last _ _ (start .pre) (start .fits .start .fits) (send-list .ensures) _ _ _ (copy-into .ensures) refl (c .if1 .taken),
+      turn-keeps _ (start .args .got) (start .pre) (start .fits .start .fits) (send-list .ensures),
+      lies _ (start .args .got) (start .pre) (start .fits .start .fits) (send-list .ensures),
     )
 
 returns-2 : tie.Need-returns-2
@@ -73,12 +66,9 @@ returns-2 c =
     let back = back .before .before .before .before .before .before .before .before in
     let send-list = back .send-list in
     let start = back .before .before .before .before .before .before .before .before .before .before .before in (
-      turn-more _ _ (start .pre) (start .fits .start .fits)
-          (send-list .ensures) _ _ _ (copy-into .ensures) refl (c .if1 .left),
-      turn-keeps _ (start .args .got) (start .pre)
-          (start .fits .start .fits) (send-list .ensures),
-      lies _ (start .args .got) (start .pre)
-          (start .fits .start .fits) (send-list .ensures),
+      turn-more _ _ (start .pre) (start .fits .start .fits) (send-list .ensures) _ _ _ (copy-into .ensures) refl (c .if1 .left),
+      turn-keeps _ (start .args .got) (start .pre) (start .fits .start .fits) (send-list .ensures),
+      lies _ (start .args .got) (start .pre) (start .fits .start .fits) (send-list .ensures),
     )
 
 pub join-page-spec : {M : Type 1} → statement M
