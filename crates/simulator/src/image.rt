@@ -4,7 +4,7 @@ ghost use mathlib.Core.Bool.{true, false};
 ghost use Prim.Native.Nat.{_+_, _≤_};
 ghost use lib.ListN.{length};
 ghost use Rattle.simulator.specs.Images.{Few, rowsSize, storesSize, imageSize};
-use crate::image_rows;
+use input::image_rows;
 use crate::say;
 use crate::session;
 use model::Flags;

@@ -1,8 +1,6 @@
 // The simulated controller as a program: requests as lines of hex on standard input, replies as hex on standard output.
 // Without an argument it serves the pallet bench of document 01, with one the table image in the file of that name.
-mod hex;
 mod image;
-mod image_rows;
 mod lines;
 mod pallet;
 mod reply;

@@ -1,0 +1,77 @@
+-- The bytes before the first that passes a test: the loop that looks for it, and the part of the text that they are; and the loop that moves
+-- a part of a buffer to its start. Assumes nothing.
+use mathlib.Core.Path.{_≡_, refl, sym, ap, _∙_}
+use mathlib.Core.Bool.{Bool, true, false}
+use mathlib.Core.List.{List, [], _∷_, _++_}
+use Prim.Native.Nat.{ℕ, zero, suc, _+_, _-_, _<_, _≤_}
+use native.Mathlib.Omega.{arith}
+use native.Mathlib.Numerals.{add-one}
+use native.Mathlib.Nat.{add-zero, zero-add, add-comm, sub-self}
+use lib.ListN.{length, getD, take, drop, set, length-drop, drop-of-length-le}
+use lib.Seq.{drop-cons, getD-drop, length-take-le, drop-paste, paste, paste-zero, paste-suc}
+use Rattle.laws.specs.Pick.{pick}
+use Rattle.laws.specs.Put.{put}
+use Rattle.laws.proofs.Chain.{by-test}
+use Rattle.input.specs.Text.{until}
+
+pub until-short : (p : ℕ → Bool) (l : List ℕ) → length (until p l) ≤ length l
+unfolding until
+until-short p [] = omega arith
+until-short p (x ∷ l) = by-test (p x) (λ t. rw t (omega arith)) (λ t. rw t (omega (arith, until-short p l)))
+
+-- where it is found from `from` on: none of those from there to i passed
+module _ (p : ℕ → Bool) (xs : List ℕ) (from i : ℕ) (here : from + length (until p (drop from xs)) ≡ i + length (until p (drop i xs))) where
+  pub until-next : {r : Bool} {j : ℕ} → i < length xs → r ≡ p (getD xs i 0) → r ≡ false → j ≡ i + 1
+      → from + length (until p (drop from xs)) ≡ j + length (until p (drop j xs))
+  unfolding until
+  until-next h e n t = rw (t, add-one) (omega (arith, rw (drop-cons xs i 0, ← e, n) at here))
+
+  pub until-found : {r : Bool} → i < length xs → r ≡ p (getD xs i 0) → r ≡ true → i ≡ from + length (until p (drop from xs))
+  unfolding until
+  until-found h e y = omega (arith, rw (drop-cons xs i 0, ← e, y) at here)
+
+  pub until-end : length xs ≤ i → i ≡ from + length (until p (drop from xs))
+  unfolding until
+  until-end h = omega (arith, rw (drop-of-length-le xs h) at here)
+
+pub ruleset untils = (until-next, until-found, until-end)
+
+-- they are the front of the text
+pub take-until : (p : ℕ → Bool) (l : List ℕ) → take (length (until p l)) l ≡ until p l
+unfolding until
+take-until p [] = refl
+take-until p (x ∷ l) = by-test (p x) (λ t. rw t) (λ t. rw t (ap (λ (k : List ℕ). x ∷ k) (take-until p l)))
+
+-- ---- a part moved to the start: what is still to be moved is as it was
+
+module _ (xs : List ℕ) (from j : ℕ) (h : from + j < length xs) where
+  pub still-there : getD (paste xs 0 (drop from xs) j) (from + j) 0 ≡ getD (drop from xs) j 0
+  still-there =
+      let d : drop j (paste xs 0 (drop from xs) j) ≡ drop j xs = 
+          ap (λ (k : ℕ). drop k (paste xs 0 (drop from xs) j)) (sym (zero-add j))
+          ∙ drop-paste xs 0 (drop from xs) j (omega arith) (rw length-drop (omega arith)) ∙ ap (λ (k : ℕ). drop k xs) (zero-add j) in
+      ap (λ (k : ℕ). getD (paste xs 0 (drop from xs) j) k 0) (add-comm from j)
+      ∙ sym (getD-drop j (paste xs 0 (drop from xs) j) from 0) ∙ ap (λ (l : List ℕ). getD l from 0) d ∙ getD-drop j xs from 0
+      ∙ ap (λ (k : ℕ). getD xs k 0) (add-comm j from) ∙ sym (getD-drop from xs j 0)
+
+pub moved-more : (xs ys : List ℕ) (from i k : ℕ) → ys ≡ paste xs 0 (drop from xs) (i - from) → from ≤ i → i < length xs → k ≡ i + 1
+    → set ys (i - from) (getD ys i 0) ≡ paste xs 0 (drop from xs) (k - from)
+moved-more xs ys from i k e h l t =
+    let a : i ≡ from + (i - from) = omega arith in
+    let b : k - from ≡ suc (i - from) = omega arith in
+    let m : from + (i - from) < length xs = omega arith in
+    let v : getD ys i 0 ≡ getD (drop from xs) (i - from) 0 =
+        ap (λ (z : List ℕ). getD z i 0) e ∙ ap (λ (n : ℕ). getD (paste xs 0 (drop from xs) (i - from)) n 0) a ∙ still-there xs from (i - from) m in
+    ap (λ (w : ℕ). set ys (i - from) w) v ∙ ap (λ (z : List ℕ). set z (i - from) (getD (drop from xs) (i - from) 0)) e
+    ∙ ap (λ (n : ℕ). set (paste xs 0 (drop from xs) (i - from)) n (getD (drop from xs) (i - from) 0)) (sym (zero-add (i - from)))
+    ∙ paste-suc xs 0 (drop from xs) (i - from) 0 (omega arith) (rw length-drop (omega arith)) ∙ ap (paste xs 0 (drop from xs)) (sym b)
+
+pub moved-all : (xs ys : List ℕ) (from i end : ℕ) → ys ≡ paste xs 0 (drop from xs) (i - from) → from ≤ end → end ≤ length xs → i ≤ end → end ≤ i
+    → ys ≡ put xs 0 (take (end - from) (drop from xs))
+unfolding put
+moved-all xs ys from i end e h l a b =
+    let n : i - from ≡ end - from = omega arith in
+    e ∙ ap (paste xs 0 (drop from xs)) n ∙ rw (length-take-le (end - from) (drop from xs) (rw length-drop (omega arith)))
+
+pub moved-none : (xs : List ℕ) (from : ℕ) → xs ≡ paste xs 0 (drop from xs) (from - from)
+moved-none xs from = rw (sub-self from) (paste-zero xs 0 (drop from xs))

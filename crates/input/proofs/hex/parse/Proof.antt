@@ -1,0 +1,12 @@
+use mathlib.Core.Path.{sym}
+use lib.Seq.{length-take-le}
+use borrow.Author.Needs.{needs}
+use Rattle.input.proofs.hex.parse.Statement.{statement}
+use Rattle.input.proofs.hex.parse.Tie as tie
+
+slice-aggregate-asked : tie.Need-slice-aggregate-asked
+slice-aggregate-asked c = sym (length-take-le _ _ (c .before .find .ensures .1))
+
+pub parse-spec : {M : Type 1} → statement M
+parse-spec =
+    tie.close (tie.spec (λ c κs. search needs) slice-aggregate-asked (λ c κs. search needs) (λ c. search needs) (λ c. search needs))

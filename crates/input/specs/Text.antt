@@ -1,0 +1,25 @@
+-- Text cut at a character, and the end of what has come of it.
+use mathlib.Core.Bool.{Bool}
+use mathlib.Core.List.{List, [], _∷_}
+use Prim.Native.Nat.{ℕ, _+_}
+use lib.Dec.{ltb, eqb}
+use Rattle.laws.specs.Pick.{pick}
+use Rattle.laws.specs.Put.{put}
+
+-- the bytes before the first that passes a test, all where none does
+unfoldable pub until : (ℕ → Bool) → List ℕ → List ℕ
+until p [] = []
+until p (x ∷ l) = pick (p x) [] (x ∷ until p l)
+
+-- the bytes before the first c, all where there is none
+abbrev pub upTo : ℕ → List ℕ → List ℕ
+upTo c l = until (λ x. eqb x c) l
+
+-- where the text ends after n bytes came behind the `at` that were there: where none came, one more than `at` for the
+-- newline that ends the unfinished line, and 0 where there is no such line
+abbrev pub endAfter : (at n : ℕ) → ℕ
+endAfter at n = pick (ltb 0 n) (at + n) (pick (eqb at 0) 0 (at + 1))
+
+-- and the buffer then: only that newline is written
+abbrev pub leftAfter : (at n : ℕ) → List ℕ → List ℕ
+leftAfter at n buf = pick (ltb 0 n) buf (pick (eqb at 0) buf (put buf at (0x0A ∷ [])))
