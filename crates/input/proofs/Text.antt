@@ -1,18 +1,22 @@
 -- The bytes before the first that passes a test: the loop that looks for it, and the part of the text that they are; and the loop that moves
 -- a part of a buffer to its start. Assumes nothing.
 use mathlib.Core.Path.{_≡_, refl, sym, ap, _∙_}
+use mathlib.Core.Logic.{_≢_}
 use mathlib.Core.Bool.{Bool, true, false}
-use mathlib.Core.List.{List, [], _∷_, _++_}
+use mathlib.Core.List.{List, [], _∷_, _++_, append-assoc}
 use Prim.Native.Nat.{ℕ, zero, suc, _+_, _-_, _<_, _≤_}
 use native.Mathlib.Omega.{arith}
 use native.Mathlib.Numerals.{add-one}
 use native.Mathlib.Nat.{add-zero, zero-add, add-comm, sub-self}
-use lib.ListN.{length, getD, take, drop, set, length-drop, drop-of-length-le}
-use lib.Seq.{drop-cons, getD-drop, length-take-le, drop-paste, paste, paste-zero, paste-suc}
+use lib.ListN.{length, getD, take, drop, set, length-append, length-drop, drop-of-length-le}
+use lib.Dec.{ltb, eqb}
+use borrow.Author.Tests.{ne-eqb}
+use lib.Seq.{take-at, getD-set-same, drop-cons, getD-drop, length-take-le, drop-paste, paste, paste-zero, paste-suc}
 use Rattle.laws.specs.Pick.{pick}
 use Rattle.laws.specs.Put.{put}
-use Rattle.laws.proofs.Chain.{by-test}
-use Rattle.input.specs.Text.{until}
+use Rattle.laws.proofs.Chain.{by-test, pick-all}
+use Rattle.laws.proofs.Put.{set-put}
+use Rattle.input.specs.Text.{until, endAfter, leftAfter, More}
 
 pub until-short : (p : ℕ → Bool) (l : List ℕ) → length (until p l) ≤ length l
 unfolding until
@@ -75,3 +79,48 @@ moved-all xs ys from i end e h l a b =
 
 pub moved-none : (xs : List ℕ) (from : ℕ) → xs ≡ paste xs 0 (drop from xs) (from - from)
 moved-none xs from = rw (sub-self from) (paste-zero xs 0 (drop from xs))
+
+-- ---- a read behind what is there, and the newline that may be written then
+
+-- a part that was lent stands behind what is there
+pub lent-front : (old new rest : List ℕ) (at : ℕ) → at ≤ length old → take at (take at old ++ (new ++ rest)) ≡ take at old
+lent-front old new rest at h = take-at (take at old) (new ++ rest) at (length-take-le at old h)
+
+front-put : (xs ys : List ℕ) (at : ℕ) → at ≤ length xs → take at (put xs at ys) ≡ take at xs
+unfolding put
+front-put xs ys at h = rw append-assoc (lent-front xs ys (drop (at + length ys) xs) at h)
+
+module _ (old mid new : List ℕ) (at n : ℕ) (inside : at < length old) (front : take at mid ≡ take at old) (as-long : length mid ≡ length old)
+    (left : new ≡ leftAfter at n mid) where
+  pub front-after : take at new ≡ take at old
+  front-after =
+      rw left (pick-all (λ (l : List ℕ). take at l ≡ take at old) (ltb 0 n) front
+      (pick-all (λ (l : List ℕ). take at l ≡ take at old) (eqb at 0) front (front-put mid (10 ∷ []) at (omega arith) ∙ front)))
+
+  pub newline-after : n ≡ 0 → 0 < at → getD new at 0 ≡ 10
+  newline-after z p =
+      let no : at ≢ 0 = omega arith in
+      let stored : put mid at (10 ∷ []) ≡ set mid at 10 = sym (set-put mid at 10 (omega arith)) in
+      rw (left, z, ne-eqb at 0 no, stored) (getD-set-same mid at 10 0 (omega arith))
+
+pub end-inside : (at n most : ℕ) → at < most → at + n ≤ most → endAfter at n ≤ most
+end-inside at n most h l = pick-all (λ (k : ℕ). k ≤ most) (ltb 0 n) l (pick-all (λ (k : ℕ). k ≤ most) (eqb at 0) (omega arith) (omega arith))
+
+-- the same of a buffer whose end was lent to a read, as it comes back: `take` to the end, and nothing after it
+pub after-read : (old came new : List ℕ) (at n r : ℕ) → at < length old → at + n ≤ length old → length came ≡ length old - at
+    → length new ≡ length old → r ≡ endAfter at n → new ≡ leftAfter at n (take at old ++ (came ++ drop (length old - at) (drop at old)))
+    → More at old new r
+after-read old came new at n r h l k s e left =
+    let rest = drop (length old - at) (drop at old) in
+    let as-long : length (take at old ++ (came ++ rest)) ≡ length old =
+        simp (length-append, length-take-le at old (omega arith), length-drop) (omega arith) in
+    let front = lent-front old came rest at (omega arith) in
+    record {
+      came = n;
+      fits = l;
+      inside = rw e (end-inside at n (length old) h l);
+      end-is = e;
+      front-stays = front-after old _ new at n h front as-long left;
+      length-stays = s;
+      line-ended = newline-after old _ new at n h front as-long left;
+    }

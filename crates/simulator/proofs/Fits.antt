@@ -8,9 +8,9 @@ use Rattle.definition.specs.Tables.{Tables, Flags}
 use Rattle.definition.specs.Answer.{answer}
 use Rattle.definition.proofs.Replies.{proper-answer}
 use Rattle.services.specs.Answers.{Answers}
-use Rattle.simulator.specs.Lines.{Usable}
-use Rattle.simulator.specs.declared.hex.Line.{Line}
-use Rattle.simulator.specs.declared.hex.Line.the-variants.{Request}
+use Rattle.input.specs.Lines.{Usable}
+use Rattle.input.specs.declared.hex.Line.{Line}
+use Rattle.input.specs.declared.hex.Line.the-variants.{Request}
 
 pub reply-fits : (t : Tables) (f : Flags) (memory request : List ℕ) {limit r : ℕ} {old new left : List ℕ}
     → Answers limit (answer t f memory request limit) old r new left → limit ≤ 65535 → 65535 ≤ length old → r ≤ length old

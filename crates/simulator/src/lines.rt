@@ -1,8 +1,9 @@
 // Standard input read into a fixed buffer, and a line that is longer than it.
 ghost use mathlib.Core.Path.{_≡_};
 ghost use mathlib.Core.Bool.{true};
-ghost use Prim.Native.Nat.{_≤_, _<_};
-ghost use lib.ListN.{length, take};
+ghost use Prim.Native.Nat.{_<_};
+ghost use lib.ListN.{length};
+ghost use Rattle.input.specs.Text.{More};
 use crate::say;
 use input::lines::Place;
 use libc::STDIN_FILENO;

@@ -9,7 +9,7 @@ use input::hex;
 use input::hex::Fault;
 use input::hex::Line;
 use crate::lines;
-use crate::lines::Place;
+use input::lines::Place;
 use crate::reply;
 use crate::say;
 use model::Flags;
@@ -129,7 +129,7 @@ fn serve_lines(
     let mut start = 0;
     let mut number = place.line;
     let mut skipping = place.skipping;
-    let mut end = lines::find(input, 0, b'\n');
+    let mut end = input::lines::find(input, 0, b'\n');
     while end < input.len() {
         serve_line(
             structures,
@@ -151,7 +151,7 @@ fn serve_lines(
         skipping = false;
         number = std::num::wrapping_add_u64(number, 1);
         start = end + 1;
-        end = lines::find(input, start, b'\n');
+        end = input::lines::find(input, start, b'\n');
     }
     Place {
         at: start,
@@ -187,7 +187,7 @@ fn turn(
     }
     let end = lines::read_more(input, at);
     if end == 0 {
-        return lines::closed();
+        return input::lines::closed();
     }
     let next = serve_lines(
         structures,
@@ -205,7 +205,7 @@ fn turn(
         buf,
         place,
     );
-    lines::shift(input, end, next)
+    input::lines::shift(input, end, next)
 }
 
 /// Answers standard input to its end. No run uses up the count of turns.
@@ -226,7 +226,7 @@ fn serve(
     let mut input = [0u8; 262144];
     let mut request = [0u8; 65535];
     let mut buf = [0u8; 65535];
-    let mut place = lines::first();
+    let mut place = input::lines::first();
     let mut turns = u64::MAX;
     while turns > 0 && place.open {
         place = turn(
