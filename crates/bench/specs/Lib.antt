@@ -1,1 +1,2 @@
+pub mod Sent
 pub mod Starred

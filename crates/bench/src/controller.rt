@@ -1,4 +1,8 @@
 // A simulated controller with the structure of document 01's pallet bench, and tags that a caller lends.
+ghost use mathlib.Core.Path.{_≡_};
+ghost use Rattle.definition.specs.Entry.{entry as entryOf};
+ghost use Rattle.definition.specs.Pallet.{palletFlags};
+ghost use Rattle.bench.specs.Sent.{lengthIn, withTags, Sends};
 use crate::tally;
 use crate::tally::Tally;
 use logix::entry::Outcome;
@@ -22,7 +26,9 @@ const NAMES: [u8; 11] = *b"CellTypeRun";
 const TEMPLATES: [u8; 8] = [1, 2, 3, 4, 5, 6, 7, 8];
 
 /// A reply's length; a request that gets none has no bytes.
-fn length_of(o: Outcome) -> usize {
+fn length_of(o: Outcome) -> usize
+    ensures { λ r. ⌜ r ≡ lengthIn o ⌝ }
+{
     match o {
         Outcome::Reply(n) => n,
         Outcome::Refused(_) => 0,
@@ -37,7 +43,10 @@ pub fn send(
     request: &[u8],
     limit: usize,
     buf: &mut [u8],
-) -> usize {
+) -> usize
+    ensures { λ r. ⌜ Sends (entryOf (withTags (now (tags .entry)) (now («tag_names» .entry))) palletFlags (now (memory .entry)) (now (request .entry))
+        limit (now (buf .entry))) r (now (buf .exit)) (now (memory .exit)) ⌝ }
+{
     let structures = STRUCTURES;
     let members = MEMBERS;
     let programs = [[0u32; 2]; 0];

@@ -1,4 +1,6 @@
 // What was compared: a line of output for each comparison, and the counts.
+ghost use mathlib.Core.Path.{_≡_};
+ghost use mathlib.Core.Bool.{true};
 use libc::STDOUT_FILENO;
 
 pub struct Tally {
@@ -35,7 +37,10 @@ fn hex(s: &[u8]) {
     }
 }
 
-pub fn same(a: &[u8], b: &[u8]) -> bool {
+/// Whether two texts have the same bytes.
+pub fn same(a: &[u8], b: &[u8]) -> bool
+    ensures { λ r. ⌜ (r ≡ true → now (a .entry) ≡ now (b .entry)) × (now (a .entry) ≡ now (b .entry) → r ≡ true) ⌝ }
+{
     if a.len() != b.len() {
         return false;
     }

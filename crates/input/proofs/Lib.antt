@@ -1,2 +1,4 @@
 pub mod Rows
 pub mod Text
+pub mod Parsing
+pub mod Worked

@@ -1,7 +1,10 @@
 // A line of input: an optional `@LIMIT`, then the request's bytes as two hex digits each; `#` starts a comment.
-ghost use Prim.Native.Nat.{_≤_};
-ghost use lib.ListN.{length};
-ghost use Rattle.input.specs.Lines.{Usable};
+ghost use mathlib.Core.Path.{_≡_};
+ghost use Prim.Native.Nat.{_+_, _≤_, _<_};
+ghost use lib.ListN.{length, drop};
+ghost use Rattle.laws.specs.Put.{put};
+ghost use Rattle.input.specs.Text.{until};
+ghost use Rattle.input.specs.Lines.{isBlank, isDecimal, isStop, digitOf, isNumber, number, byteOf, faultOf, bytesIn, limitedBy, askedBy, parsed, tenfoldOf, Capped, Reads};
 
 
 /// The limit where a line names none.
@@ -23,7 +26,9 @@ pub enum Line {
     Wrong(Fault),
 }
 
-fn is_blank(c: u8) -> bool {
+fn is_blank(c: u8) -> bool
+    ensures { λ r. ⌜ r ≡ isBlank c ⌝ }
+{
     match c {
         b' ' | b'\t' | b'\r' => true,
         _ => false,
@@ -32,7 +37,7 @@ fn is_blank(c: u8) -> bool {
 
 /// A hex digit's value, 16 for any other character.
 fn digit(c: u8) -> u8
-    ensures { λ r. ⌜ r ≤ 16 ⌝ }
+    ensures { λ r. ⌜ (r ≤ 16) × (r ≡ digitOf c) ⌝ }
 {
     match c {
         b'0'..=b'9' => c - b'0',
@@ -42,7 +47,9 @@ fn digit(c: u8) -> u8
     }
 }
 
-fn is_stop(c: u8, at_blank: bool) -> bool {
+fn is_stop(c: u8, at_blank: bool) -> bool
+    ensures { λ r. ⌜ r ≡ isStop «at_blank» c ⌝ }
+{
     if at_blank {
         return is_blank(c);
     }
@@ -52,7 +59,7 @@ fn is_stop(c: u8, at_blank: bool) -> bool {
 /// The next blank, or the next character that is none; else the text's end.
 fn scan(text: &[u8], at: usize, at_blank: bool) -> usize
     requires { ⌜ at ≤ length (now text) ⌝ }
-    ensures { λ r. ⌜ (at ≤ r) × (r ≤ length (now (text .entry))) ⌝ }
+    ensures { λ r. ⌜ (at ≤ r) × (r ≤ length (now (text .entry))) × (r ≡ at + length (until (isStop «at_blank») (drop at (now (text .entry))))) ⌝ }
 {
     let mut i = at;
     while i < text.len() {
@@ -64,7 +71,9 @@ fn scan(text: &[u8], at: usize, at_blank: bool) -> usize
     i
 }
 
-fn is_decimal(c: u8) -> bool {
+fn is_decimal(c: u8) -> bool
+    ensures { λ r. ⌜ r ≡ isDecimal c ⌝ }
+{
     match c {
         b'0'..=b'9' => true,
         _ => false,
@@ -72,7 +81,9 @@ fn is_decimal(c: u8) -> bool {
 }
 
 /// One decimal digit or more, and nothing else.
-fn is_number(word: &[u8]) -> bool {
+fn is_number(word: &[u8]) -> bool
+    ensures { λ r. ⌜ r ≡ isNumber (now (word .entry)) ⌝ }
+{
     let mut i = 0;
     while i < word.len() {
         if !is_decimal(word[i]) {
@@ -84,14 +95,18 @@ fn is_number(word: &[u8]) -> bool {
 }
 
 /// A number with one more digit; 65,536 stands for all that is over 65,535.
-fn tenfold(n: usize, c: u8) -> usize {
+fn tenfold(n: usize, c: u8) -> usize
+    ensures { λ r. ⌜ r ≡ tenfoldOf n c ⌝ }
+{
     if n > 6553 {
         return 65536;
     }
     10 * n + digit(c) as usize
 }
 
-fn decimal(word: &[u8]) -> usize {
+fn decimal(word: &[u8]) -> usize
+    ensures { λ r. ⌜ Capped (number 0 (now (word .entry))) r ⌝ }
+{
     let mut n = 0;
     let mut i = 0;
     while i < word.len() {
@@ -102,7 +117,9 @@ fn decimal(word: &[u8]) -> usize {
 }
 
 /// The byte of two hex digits; 256: one is no hex digit, 257: the second is missing.
-fn pair(high: u8, low: u8) -> u16 {
+fn pair(high: u8, low: u8) -> u16
+    ensures { λ r. ⌜ r ≡ byteOf high low ⌝ }
+{
     let h = digit(high);
     if h > 15 {
         return 256;
@@ -117,7 +134,9 @@ fn pair(high: u8, low: u8) -> u16 {
     16 * (h as u16) + l as u16
 }
 
-fn fault_of(b: u16) -> Fault {
+fn fault_of(b: u16) -> Fault
+    ensures { λ r. ⌜ r ≡ faultOf b ⌝ }
+{
     if b == 256 {
         return Fault::Digit;
     }
@@ -127,7 +146,7 @@ fn fault_of(b: u16) -> Fault {
 /// The bytes of the text from a position on, into the request's buffer.
 fn bytes(text: &[u8], start: usize, limit: usize, request: &mut [u8]) -> Line
     requires { ⌜ (start ≤ length (now text)) × (limit ≤ 65535) ⌝ }
-    ensures { λ r. ⌜ Usable (length (now (request .entry))) r ⌝ }
+    ensures { λ r. ⌜ Reads (bytesIn limit (length (now (request .entry))) 0 (drop start (now (text .entry)))) (now (request .entry)) r (now (request .exit)) ⌝ }
 {
     let mut at = scan(text, start, false);
     let mut n = 0;
@@ -152,7 +171,7 @@ fn bytes(text: &[u8], start: usize, limit: usize, request: &mut [u8]) -> Line
 /// The text behind the `@` of a limit.
 fn limited(text: &[u8], at: usize, request: &mut [u8]) -> Line
     requires { ⌜ at ≤ length (now text) ⌝ }
-    ensures { λ r. ⌜ Usable (length (now (request .entry))) r ⌝ }
+    ensures { λ r. ⌜ Reads (limitedBy (length (now (request .entry))) (drop at (now (text .entry)))) (now (request .entry)) r (now (request .exit)) ⌝ }
 {
     let end = scan(text, at, true);
     if !is_number(&text[at..end]) {
@@ -167,7 +186,7 @@ fn limited(text: &[u8], at: usize, request: &mut [u8]) -> Line
 
 /// The line up to its comment.
 fn asked(text: &[u8], request: &mut [u8]) -> Line
-    ensures { λ r. ⌜ Usable (length (now (request .entry))) r ⌝ }
+    ensures { λ r. ⌜ Reads (askedBy (length (now (request .entry))) (now (text .entry))) (now (request .entry)) r (now (request .exit)) ⌝ }
 {
     let at = scan(text, 0, false);
     if at >= text.len() {
@@ -181,7 +200,7 @@ fn asked(text: &[u8], request: &mut [u8]) -> Line
 
 /// Reads a line; a request's bytes are put into the buffer.
 pub fn parse(line: &[u8], request: &mut [u8]) -> Line
-    ensures { λ r. ⌜ Usable (length (now (request .entry))) r ⌝ }
+    ensures { λ r. ⌜ Reads (parsed (length (now (request .entry))) (now (line .entry))) (now (request .entry)) r (now (request .exit)) ⌝ }
 {
     let end = crate::lines::find(line, 0, b'#');
     asked(&line[..end], request)
