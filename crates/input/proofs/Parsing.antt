@@ -5,11 +5,21 @@ use mathlib.Core.Bool.{Bool, true, false, not}
 use mathlib.Core.List.{List, [], _∷_, _++_, append-nil, append-assoc}
 use Prim.Native.Nat.{ℕ, zero, suc, _+_, _-_, _*_, _<_, _≤_}
 use native.Mathlib.Omega.{arith}
+use native.Mathlib.Numerals.{add-one}
+use native.Mathlib.Nat.{zero-add}
 use lib.Dec.{ltb, leb, eqb}
-use borrow.Author.Tests.{eq-eqb, ne-eqb, lt-leb, lt-ltb, le-ltb}
+use lib.ListN.{length, getD, take, drop, set, length-set, length-drop, drop-of-length-le, take-append-drop}
+use lib.Seq.{take-suc, take-all, drop-cons, drop-drop, getD-drop, length-take-le, take-suc-set, drop-set-lt}
+use borrow.Author.Tests.{eq-eqb, ne-eqb, lt-leb, lt-ltb, le-ltb, le-leb, ltb-true, ltb-false, not-true}
 use Rattle.laws.specs.Pick.{pick, both, either}
-use Rattle.laws.proofs.Chain.{either-no, both-off, both-off-2}
-use Rattle.input.specs.Lines.{isBlank, between, digitOf, byteOf}
+use Rattle.laws.proofs.Chain.{either-no, both-off, both-off-2, by-test}
+use Rattle.laws.specs.Put.{put}
+use Rattle.input.specs.Text.{until}
+use Rattle.input.specs.declared.hex.Fault.{Fault}
+use Rattle.input.specs.declared.hex.Fault.the-variants.{TooLong, NoNumber, OverLimit}
+use Rattle.input.specs.declared.hex.Line.{Line}
+use Rattle.input.specs.declared.hex.Line.the-variants.{Empty, Request, Wrong}
+use Rattle.input.specs.Lines.{Parsed, ends, behind, isBlank, isStop, between, digitOf, number, byteOf, faultOf, bytesIn, limitedBy, askedBy, parsed, Reads, Capped, tenfoldOf}
 
 -- ---- characters
 
@@ -23,15 +33,29 @@ blank-not c n =
     either-no _ _ _ (ne-eqb c 0x09 (λ e. n (inl e)))
     (either-no _ _ _ (ne-eqb c 0x0D (λ e. n (inr (inl e)))) (sym (ne-eqb c 0x20 (λ e. n (inr (inr e))))))
 
-pub no-digit : (c : ℕ) → between 0x30 0x39 c ≡ false → between 0x41 0x46 c ≡ false → between 0x61 0x66 c ≡ false → 16 ≡ digitOf c
-unfolding digitOf
-no-digit c d u l = sym (rw (d, u, l))
-
-pub under : (low high c : ℕ) → c < low → between low high c ≡ false
+under : (low high c : ℕ) → c < low → between low high c ≡ false
 under low high c h = both-off _ _ (lt-leb low c h)
 
-pub over : (low high c : ℕ) → high < c → between low high c ≡ false
-over low high c h = both-off-2 _ _ (lt-leb c high h)
+over : (low high c : ℕ) → high < c → between low high c ≡ false
+over low high c h = both-off-2 (leb low c) _ (lt-leb c high h)
+
+-- no hex digit: before the digits, between them and the letters, between these, and after them
+module _ (c : ℕ) where
+  no-digit : between 0x30 0x39 c ≡ false → between 0x41 0x46 c ≡ false → between 0x61 0x66 c ≡ false → 16 ≡ digitOf c
+  unfolding digitOf
+  no-digit d u l = sym (rw (d, u, l))
+
+  pub before-digits : c < 0x30 → 16 ≡ digitOf c
+  before-digits h = no-digit (under 0x30 0x39 c h) (under 0x41 0x46 c (omega arith)) (under 0x61 0x66 c (omega arith))
+
+  pub before-capitals : 0x3A ≤ c → c < 0x41 → 16 ≡ digitOf c
+  before-capitals g h = no-digit (over 0x30 0x39 c g) (under 0x41 0x46 c h) (under 0x61 0x66 c (omega arith))
+
+  pub before-small : 0x47 ≤ c → c < 0x61 → 16 ≡ digitOf c
+  before-small g h = no-digit (over 0x30 0x39 c (omega arith)) (over 0x41 0x46 c g) (under 0x61 0x66 c h)
+
+  pub after-small : 0x67 ≤ c → 16 ≡ digitOf c
+  after-small g = no-digit (over 0x30 0x39 c (omega arith)) (over 0x41 0x46 c (omega arith)) (over 0x61 0x66 c g)
 
 -- ---- two digits, by what the code has found of each
 
@@ -52,3 +76,149 @@ module _ (high low h : ℕ) (h-is : h ≡ digitOf high) where
     pub whole-byte : l ≤ 15 → 16 * h + l ≡ byteOf high low
     unfolding byteOf
     whole-byte u = sym (rw (← h-is, le-ltb 15 h t, b, ← l-is, le-ltb 15 l u))
+
+-- ---- the limit: the digits before i are counted
+
+number-more : (n : ℕ) (word : List ℕ) (c : ℕ) → number n (word ++ (c ∷ [])) ≡ 10 * number n word + digitOf c
+unfolding number
+number-more n [] c = refl
+number-more n (x ∷ word) c = number-more (10 * n + digitOf x) word c
+
+pub none-counted : Capped (number 0 []) 0
+unfolding number
+none-counted = record { small = λ s. refl; large = λ l. absurd (omega arith) }
+
+capped-more : (exact n c r : ℕ) → Capped exact n → r ≡ tenfoldOf n c → Capped (10 * exact + digitOf c) r
+capped-more exact n c r k e =
+    by-test (ltb 6553 n)
+    (λ t. let v : r ≡ 65536 = e ∙ rw t in
+    let over = ltb-true 6553 n t in
+    record { small = λ s. absurd (omega (arith, k .small (omega arith))); large = λ s. omega arith })
+    (λ t. let v : r ≡ 10 * n + digitOf c = e ∙ rw t in
+    let under = ltb-false 6553 n t in
+    record {
+      small = λ s. omega (arith, k .small (omega arith));
+      large = λ s. by-test (ltb 65535 exact) (λ u. absurd (omega (arith, k .large (ltb-true 65535 exact u)))) (λ u. omega (arith, k .small (ltb-false 65535 exact u)));
+    })
+
+pub counted-more : (word : List ℕ) (i n j r : ℕ) → Capped (number 0 (take i word)) n → i < length word → r ≡ tenfoldOf n (getD word i 0) → j ≡ i + 1
+    → Capped (number 0 (take j word)) r
+counted-more word i n j r k h e t =
+    rw (t, add-one i, take-suc word i 0 h, number-more 0 (take i word) (getD word i 0)) (capped-more (number 0 (take i word)) n (getD word i 0) r k e)
+
+pub all-counted : (word : List ℕ) (i n : ℕ) → Capped (number 0 (take i word)) n → length word ≤ i → Capped (number 0 word) n
+all-counted word i n k h = rw (take-all i word h) at k
+
+-- ---- blanks that are skipped
+
+until-stops : (p : ℕ → Bool) (l : List ℕ) → length (until p l) < length l → p (getD l (length (until p l)) 0) ≡ true
+unfolding until
+until-stops p [] h = absurd (omega arith)
+until-stops p (x ∷ l) h =
+    by-test (p x) (λ t. rw t t) (λ t. rw t (until-stops p l (omega (arith, rw t at h))))
+
+-- a reading that goes over blanks gives the same from the first character that is none
+module _ {A : Type 0} (f : List ℕ → A) (over : (x : ℕ) (l : List ℕ) → isBlank x ≡ true → f (x ∷ l) ≡ f l) where
+  skip : (l : List ℕ) → f l ≡ f (drop (length (until (isStop false) l)) l)
+  unfolding until
+  skip [] = refl
+  skip (x ∷ l) =
+      by-test (isBlank x) (λ t. rw t (over x l t ∙ skip l))
+      (λ t. let u : until (isStop false) (x ∷ l) ≡ [] = rw t in ap (λ (k : List ℕ). f (drop (length k) (x ∷ l))) (sym u))
+
+  pub skip-to : (text : List ℕ) (at r : ℕ) → r ≡ at + length (until (isStop false) (drop at text)) → f (drop at text) ≡ f (drop r text)
+  skip-to text at r e = skip (drop at text) ∙ ap f (drop-drop (length (until (isStop false) (drop at text))) at text ∙ ap (λ (k : ℕ). drop k text) (sym e))
+
+pub no-blank : (text : List ℕ) (at r : ℕ) → r ≡ at + length (until (isStop false) (drop at text)) → r < length text → isBlank (getD text r 0) ≡ false
+no-blank text at r e h =
+    let s = until-stops (isStop false) (drop at text) (rw length-drop (omega arith)) in
+    ap (λ (k : ℕ). isBlank (getD text k 0)) e ∙ ap isBlank (sym (getD-drop at text _ 0)) ∙ not-true _ s
+
+bytes-over : (limit most n x : ℕ) (l : List ℕ) → isBlank x ≡ true → bytesIn limit most n (x ∷ l) ≡ bytesIn limit most n l
+unfolding bytesIn
+bytes-over limit most n x [] t = rw t
+bytes-over limit most n x (y ∷ l) t = rw t
+
+asked-over : (most x : ℕ) (l : List ℕ) → isBlank x ≡ true → askedBy most (x ∷ l) ≡ askedBy most l
+unfolding askedBy
+asked-over most x l t = rw t
+
+-- ---- the bytes
+
+-- n bytes are read into the request, and the text from `at` on goes on with them
+pub record Going (limit : ℕ) (text old : List ℕ) (start at n : ℕ) (request : List ℕ) : Type 0 where
+  pub whole : bytesIn limit (length old) 0 (drop start text) ≡ behind (take n request) (bytesIn limit (length old) n (drop at text))
+  pub rest : drop n request ≡ drop n old
+  pub no-blank-here : at < length text → isBlank (getD text at 0) ≡ false
+
+pub going-start : (limit : ℕ) (text old : List ℕ) (start at : ℕ) → at ≡ start + length (until (isStop false) (drop start text)) → Going limit text old start at 0 old
+going-start limit text old start at e = record {
+  whole = skip-to (bytesIn limit (length old) 0) (bytes-over limit (length old) 0) text start at e;
+  rest = refl;
+  no-blank-here = no-blank text start at e;
+}
+
+module _ (limit : ℕ) (text old : List ℕ) (start at n : ℕ) (request : List ℕ) (g : Going limit text old start at n request) where
+  -- where the text from here on says what is asked, that is the answer
+  answered : (x : Line) → bytesIn limit (length old) n (drop at text) ≡ ends x → n ≤ length old → length request ≡ length old
+      → Reads (bytesIn limit (length old) 0 (drop start text)) old x request
+  unfolding put
+  answered x e h l =
+      let w : bytesIn limit (length old) 0 (drop start text) ≡ record { asks = x; bytes = take n request } =
+          g .whole ∙ ap (behind (take n request)) e ∙ ap (λ (b : List ℕ). record { asks = x; bytes = b }) (append-nil (take n request)) in
+      rw w (record {
+        asks-is = refl;
+        buffer-is = sym (take-append-drop n request) ∙ rw (zero-add, length-take-le n request (omega arith), g .rest);
+      })
+
+  pub going-end : length text ≤ at → n ≤ length old → length request ≡ length old
+      → Reads (bytesIn limit (length old) 0 (drop start text)) old (Request limit n) request
+  unfolding bytesIn
+  going-end h = answered (Request limit n) (rw (drop-of-length-le text h))
+
+  pub going-odd : (f : Fault) (b : ℕ) → at < length text → length text - at < 2 → b ≡ byteOf (getD text at 0) 0x20 → f ≡ faultOf b → n ≤ length old
+      → length request ≡ length old → Reads (bytesIn limit (length old) 0 (drop start text)) old (Wrong f) request
+  unfolding bytesIn
+  going-odd f b h k e q =
+      let one : drop at text ≡ getD text at 0 ∷ [] =
+          drop-cons text at 0 h ∙ ap (λ (l : List ℕ). getD text at 0 ∷ l) (drop-of-length-le text {i = suc at} (omega arith)) in
+      answered (Wrong f) (rw (one, g .no-blank-here h, q, e))
+
+  module _ (b : ℕ) (h : at < length text) (k : 2 ≤ length text - at) (e : b ≡ byteOf (getD text at 0) (getD text (at + 1) 0)) where
+    two : drop at text ≡ getD text at 0 ∷ getD text (at + 1) 0 ∷ drop (at + 2) text
+    two =
+        let m : suc (suc at) ≡ at + 2 = omega arith in
+        drop-cons text at 0 h ∙ ap (λ (l : List ℕ). getD text at 0 ∷ l) (drop-cons text (suc at) 0 (omega arith) ∙ rw (m, ← add-one at))
+
+    pub going-fault : (f : Fault) → 255 < b → f ≡ faultOf b → n ≤ length old → length request ≡ length old
+        → Reads (bytesIn limit (length old) 0 (drop start text)) old (Wrong f) request
+    unfolding bytesIn
+    going-fault f o q = answered (Wrong f) (rw (two, g .no-blank-here h, ← e, lt-ltb 255 b o, q))
+
+    pub going-full : b ≤ 255 → length old ≤ n → n ≤ length old → length request ≡ length old
+        → Reads (bytesIn limit (length old) 0 (drop start text)) old (Wrong TooLong) request
+    unfolding bytesIn
+    going-full o f = answered (Wrong TooLong) (rw (two, g .no-blank-here h, ← e, le-ltb 255 b o, le-leb (length old) n f))
+
+    one-more : b ≤ 255 → n < length old
+        → bytesIn limit (length old) n (drop at text) ≡ behind (b ∷ []) (bytesIn limit (length old) (suc n) (drop (at + 2) text))
+    unfolding bytesIn
+    one-more o f = rw (two, g .no-blank-here h, ← e, le-ltb 255 b o, lt-leb (length old) n f)
+
+    pub going-more : (r m : ℕ) → b ≤ 255 → n < length old → length request ≡ length old → m ≡ n + 1
+        → r ≡ at + 2 + length (until (isStop false) (drop (at + 2) text)) → Going limit text old start r m (set request n b)
+    going-more r m o f l t s =
+        let q : m ≡ suc n = omega arith in
+        let skipped = skip-to (bytesIn limit (length old) (suc n)) (bytes-over limit (length old) (suc n)) text (at + 2) r s in
+        let stored = take-suc-set request n b (omega arith) in
+        rw q (record {
+          whole = g .whole ∙ ap (behind (take n request)) (one-more o f ∙ ap (behind (b ∷ [])) skipped)
+              ∙ ap (λ (z : List ℕ). record { asks = bytesIn limit (length old) (suc n) (drop r text) .asks; bytes = z })
+              (sym (append-assoc (take n request) (b ∷ []) (bytesIn limit (length old) (suc n) (drop r text) .bytes)))
+              ∙ ap (λ (z : List ℕ). behind z (bytesIn limit (length old) (suc n) (drop r text))) (sym stored);
+          rest = drop-set-lt (suc n) request n b (omega arith) ∙ sym (rest-of request) ∙ ap (drop 1) (g .rest) ∙ rest-of old;
+          no-blank-here = no-blank text (at + 2) r s;
+        })
+      where
+      rest-of : (xs : List ℕ) → drop 1 (drop n xs) ≡ drop (suc n) xs
+      rest-of xs = drop-drop 1 n xs ∙ ap (λ (k : ℕ). drop k xs) (add-one n)

@@ -1,3 +1,8 @@
+use Prim.Native.Nat.{_≤_, _-_}
+use lib.ListN.{length, take}
+use Rattle.input.specs.Lines.{number, Capped}
+use Rattle.input.proofs.Parsing.{none-counted, counted-more, all-counted}
+use mathlib.Core.Path.{refl}
 use borrow.Author.Needs.{needs}
 use Rattle.input.proofs.hex.decimal.Statement.{statement}
 use Rattle.input.proofs.hex.decimal.Tie as tie
@@ -6,14 +11,14 @@ use Rattle.input.proofs.hex.decimal.Lts as lts
 use Rattle.input.proofs.hex.tenfold.Reads as tenfold-reads
 
 abbrev Inv-loop : tie.InvT-loop
-Inv-loop word n₀ i₀ n i = ?
+Inv-loop word n₀ i₀ n i = (i ≤ length word) × Capped (number 0 (take i word)) n
 
 abbrev μ-loop : tie.MeasureT-loop
-μ-loop word n₀ i₀ n i = ?
+μ-loop word n₀ i₀ n i = length word - i
 
 -- src/hex.rt:112:5
 loop-holds : tie.Need-loop-holds Inv-loop μ-loop
-loop-holds c = search needs
+loop-holds c = (search needs, none-counted)
 
 -- src/hex.rt:113:24
 shared-slice-read-tenfold : tie.Need-shared-slice-read-tenfold Inv-loop μ-loop
@@ -33,11 +38,15 @@ loop-less c = search needs
 
 -- src/hex.rt:112:5
 loop-again : tie.Need-loop-again Inv-loop μ-loop
-loop-again c = search needs
+loop-again c =
+    let loop = c .before .before .before .loop in
+    (search needs, counted-more _ (loop .i) _ _ _ (loop .inv .1) (search needs) (c .tenfold .ensures) refl)
 
 -- src/hex.rt:107:1
 returns : tie.Need-returns Inv-loop μ-loop
-returns c = ?
+returns c =
+    let loop = c .before .loop in
+    all-counted _ (loop .i) _ (loop .inv .1) (search needs)
 
 pub decimal-spec : {M : Type 1} → statement M
 decimal-spec =

@@ -1,5 +1,5 @@
 use native.Mathlib.Omega.{arith}
-use Rattle.input.proofs.Parsing.{no-digit, under, over}
+use Rattle.input.proofs.Parsing.{before-digits, before-capitals, before-small, after-small}
 use Rattle.laws.proofs.Chain.{chain, tests}
 use Rattle.input.specs.Lines.{digitOf}
 use Prim.Native.Nat.{ℕ}
@@ -35,19 +35,19 @@ returns-3 c = (search needs, search (needs, chain, tests))
 
 -- src/hex.rt:39:1
 returns-4 : tie.Need-returns-4
-returns-4 c = (search needs, no-digit _ (under _ _ _ (omega arith)) (under _ _ _ (omega arith)) (under _ _ _ (omega arith)))
+returns-4 c = (search needs, before-digits _ (search needs))
 
 -- src/hex.rt:39:1
 returns-5 : tie.Need-returns-5
-returns-5 c = (search needs, no-digit _ (over _ _ _ (omega arith)) (under _ _ _ (omega arith)) (under _ _ _ (omega arith)))
+returns-5 c = (search needs, before-capitals _ (search needs) (search needs))
 
 -- src/hex.rt:39:1
 returns-6 : tie.Need-returns-6
-returns-6 c = (search needs, no-digit _ (over _ _ _ (omega arith)) (over _ _ _ (omega arith)) (under _ _ _ (omega arith)))
+returns-6 c = (search needs, before-small _ (search needs) (search needs))
 
 -- src/hex.rt:39:1
 returns-7 : tie.Need-returns-7
-returns-7 c = (search needs, no-digit _ (over _ _ _ (omega arith)) (over _ _ _ (omega arith)) (over _ _ _ (omega arith)))
+returns-7 c = (search needs, after-small _ (search needs))
 
 pub digit-spec : {M : Type 1} → statement M
 digit-spec =

@@ -56,7 +56,10 @@ loop-again c = (search needs, search (needs, everys))
 -- src/hex.rt:84:1
 returns-2 : tie.Need-returns-2 Inv-loop μ-loop
 unfolding isNumber
-returns-2 c = both-yes _ _ _ (sym (every-end isDecimal 0 _ _ (c .before .loop .inv .1) (search needs))) refl
+returns-2 c =
+    let loop = c .before .loop in
+    let args = c .before .before .before .args in
+    both-yes _ _ _ (sym (every-end isDecimal 0 (loop .i) (args .word .now) (loop .inv .1) (search needs))) refl
 
 pub is-number-spec : {M : Type 1} → statement M
 is-number-spec =
