@@ -14,12 +14,14 @@ use borrow.Author.Tests.{eq-eqb, ne-eqb, lt-leb, lt-ltb, le-ltb, le-leb, ltb-tru
 use Rattle.laws.specs.Pick.{pick, both, either}
 use Rattle.laws.proofs.Chain.{either-no, both-off, both-off-2, by-test}
 use Rattle.laws.specs.Put.{put}
-use Rattle.input.specs.Text.{until}
+use Rattle.laws.proofs.Put.{put-none}
+use Rattle.input.specs.Text.{until, upTo}
+use Rattle.input.proofs.Text.{take-until}
 use Rattle.input.specs.declared.hex.Fault.{Fault}
 use Rattle.input.specs.declared.hex.Fault.the-variants.{TooLong, NoNumber, OverLimit}
 use Rattle.input.specs.declared.hex.Line.{Line}
 use Rattle.input.specs.declared.hex.Line.the-variants.{Empty, Request, Wrong}
-use Rattle.input.specs.Lines.{Parsed, ends, behind, isBlank, isStop, between, digitOf, number, byteOf, faultOf, bytesIn, limitedBy, askedBy, parsed, Reads, Capped, tenfoldOf}
+use Rattle.input.specs.Lines.{Parsed, ends, behind, isBlank, isStop, between, digitOf, isNumber, number, byteOf, faultOf, bytesIn, limitedBy, askedBy, parsed, Reads, Capped, tenfoldOf}
 
 -- ---- characters
 
@@ -222,3 +224,61 @@ module _ (limit : ℕ) (text old : List ℕ) (start at n : ℕ) (request : List 
       where
       rest-of : (xs : List ℕ) → drop 1 (drop n xs) ≡ drop (suc n) xs
       rest-of xs = drop-drop 1 n xs ∙ ap (λ (k : ℕ). drop k xs) (add-one n)
+
+-- ---- the line
+
+pub reads-as : {p q : Parsed} {old : List ℕ} {r : Line} {new : List ℕ} → q ≡ p → Reads p old r new → Reads q old r new
+reads-as e s = rw e s
+
+-- nothing is read
+pub reads-none : {q : Parsed} {r : Line} (old : List ℕ) → q ≡ ends r → Reads q old r old
+reads-none old e = rw e (record { asks-is = refl; buffer-is = sym (put-none old 0) })
+
+module _ (most at end : ℕ) (text : List ℕ) (ends-at : end ≡ at + length (until isBlank (drop at text))) where
+  word-is : take (end - at) (drop at text) ≡ until isBlank (drop at text)
+  word-is =
+      let n : end - at ≡ length (until isBlank (drop at text)) = omega arith in
+      ap (λ (k : ℕ). take k (drop at text)) n ∙ take-until isBlank (drop at text)
+
+  pub no-number : isNumber (take (end - at) (drop at text)) ≡ false → limitedBy most (drop at text) ≡ ends (Wrong NoNumber)
+  unfolding limitedBy
+  no-number f = rw (rw word-is at f)
+
+  module _ (n : ℕ) (is : isNumber (take (end - at) (drop at text)) ≡ true) (counts : Capped (number 0 (take (end - at) (drop at text))) n) where
+    counted : Capped (number 0 (until isBlank (drop at text))) n
+    counted = rw word-is at counts
+
+    pub over-limit : 65535 < n → limitedBy most (drop at text) ≡ ends (Wrong OverLimit)
+    unfolding limitedBy
+    over-limit h =
+        by-test (ltb 65535 (number 0 (until isBlank (drop at text)))) (λ t. rw (rw word-is at is, t))
+        (λ t. let l = ltb-false 65535 (number 0 (until isBlank (drop at text))) t in absurd (omega (arith, counted .small l)))
+
+    pub has-limit : n ≤ 65535 → limitedBy most (drop at text) ≡ bytesIn n most 0 (drop end text)
+    unfolding limitedBy
+    has-limit h =
+        by-test (ltb 65535 (number 0 (until isBlank (drop at text))))
+        (λ t. absurd (omega (arith, counted .large (ltb-true _ _ t))))
+        (λ t. rw (rw word-is at is, t, ← (counted .small (ltb-false _ _ t)), drop-drop, ← ends-at))
+
+module _ (most at : ℕ) (text : List ℕ) (skips : at ≡ 0 + length (until (isStop false) (drop 0 text))) where
+  skipped : askedBy most text ≡ askedBy most (drop at text)
+  skipped = skip-to (askedBy most) (asked-over most) text 0 at skips
+
+  pub is-empty : length text ≤ at → askedBy most text ≡ ends Empty
+  unfolding askedBy
+  is-empty h = skipped ∙ rw (drop-of-length-le text h)
+
+  pub is-limited : at < length text → getD text at 0 ≡ 0x40 → askedBy most text ≡ limitedBy most (drop (at + 1) text)
+  unfolding askedBy
+  is-limited h e = skipped ∙ rw (drop-cons text at 0 h, no-blank text 0 at skips h, e, add-one at)
+
+  pub is-plain : at < length text → (getD text at 0 ≡ 0x40 → ⊥) → askedBy most text ≡ bytesIn 500 most 0 (drop at text)
+  unfolding askedBy
+  is-plain h e = skipped ∙ rw (drop-cons text at 0 h, no-blank text 0 at skips h, ne-eqb (getD text at 0) 0x40 e)
+
+pub without-comment : (most end : ℕ) (line : List ℕ) → end ≡ 0 + length (upTo 0x23 (drop 0 line)) → parsed most line ≡ askedBy most (take end line)
+unfolding parsed
+without-comment most end line e =
+    let n : end ≡ length (upTo 0x23 line) = omega arith in
+    rw (n, take-until (λ x. eqb x 0x23) line)

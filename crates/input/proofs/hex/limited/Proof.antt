@@ -1,3 +1,6 @@
+use mathlib.Core.Path.{sym, _∙_}
+use Rattle.laws.proofs.Loops.{not-on, not-off}
+use Rattle.input.proofs.Parsing.{reads-as, reads-none, no-number, over-limit, has-limit}
 use borrow.Author.Needs.{needs}
 use Rattle.input.proofs.hex.limited.Statement.{statement}
 use Rattle.input.proofs.hex.limited.Tie as tie
@@ -30,7 +33,9 @@ is-number-requires c κs = search needs
 
 -- src/hex.rt:178:9
 returns : tie.Need-returns
-returns c = ?
+returns c =
+    let scan = c .before .before .before .scan in
+    reads-none _ (no-number _ _ _ _ (scan .ensures .2) (sym (c .before .is-number .ensures) ∙ not-on _ (c .if1 .taken)))
 
 -- src/hex.rt:180:25
 sub-decimal : tie.Need-sub-decimal
@@ -50,7 +55,12 @@ decimal-requires c κs = search needs
 
 -- src/hex.rt:182:9
 returns-2 : tie.Need-returns-2
-returns-2 c = ?
+returns-2 c =
+    let if1 = c .before .before .before .if1 in
+    let is-number = c .before .before .before .before .is-number in
+    let scan = c .before .before .before .before .before .before .scan in
+    reads-none _ (over-limit _ _ _ _ (scan .ensures .2) _ (sym (is-number .ensures) ∙ not-off _ (if1 .left))
+    (c .before .decimal .ensures) (search needs))
 
 -- src/hex.rt:184:5
 bytes-requires : tie.Need-bytes-requires
@@ -62,7 +72,13 @@ same-length c = search needs
 
 -- src/hex.rt:172:1
 returns-3 : tie.Need-returns-3
-returns-3 c = ?
+returns-3 c =
+    let decimal = c .before .before .before .before .before .decimal in
+    let if1 = c .before .before .before .before .before .before .before .if1 in
+    let is-number = c .before .before .before .before .before .before .before .before .is-number in
+    let scan = c .before .before .before .before .before .before .before .before .before .before .scan in
+    reads-as (has-limit _ _ _ _ (scan .ensures .2) _ (sym (is-number .ensures) ∙ not-off _ (if1 .left))
+    (decimal .ensures) (search needs)) (c .before .before .bytes .ensures)
 
 pub limited-spec : {M : Type 1} → statement M
 limited-spec =
