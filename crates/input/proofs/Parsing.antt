@@ -1,5 +1,5 @@
 -- What a line asks: the turns of the loops that read it. Assumes nothing.
-use mathlib.Core.Path.{_≡_, refl, sym, ap, _∙_}
+use mathlib.Core.Path.{_≡_, refl, sym, ap, subst, _∙_}
 use mathlib.Core.Logic.{_⊎_, inl, inr}
 use mathlib.Core.Bool.{Bool, true, false, not}
 use mathlib.Core.List.{List, [], _∷_, _++_, append-nil, append-assoc}
@@ -10,9 +10,10 @@ use native.Mathlib.Nat.{zero-add}
 use lib.Dec.{ltb, leb, eqb}
 use lib.ListN.{length, getD, take, drop, set, length-set, length-drop, drop-of-length-le, take-append-drop}
 use lib.Seq.{take-suc, take-all, drop-cons, drop-drop, getD-drop, length-take-le, take-suc-set, drop-set-lt}
-use borrow.Author.Tests.{eq-eqb, ne-eqb, lt-leb, lt-ltb, le-ltb, le-leb, ltb-true, ltb-false, not-true}
+use borrow.Author.Tests.{eq-eqb, ne-eqb, lt-leb, lt-ltb, le-ltb, le-leb, leb-false, ltb-true, ltb-false, not-true}
 use Rattle.laws.specs.Pick.{pick, both, either}
-use Rattle.laws.proofs.Chain.{either-no, both-off, both-off-2, by-test}
+use Rattle.laws.proofs.Chain.{either-no, both-off, both-off-2, by-test, pick-all}
+use Rattle.laws.proofs.Tests.{pick-by}
 use Rattle.laws.specs.Put.{put}
 use Rattle.laws.proofs.Put.{put-none}
 use Rattle.input.specs.Text.{until, upTo}
@@ -21,7 +22,7 @@ use Rattle.input.specs.declared.hex.Fault.{Fault}
 use Rattle.input.specs.declared.hex.Fault.the-variants.{TooLong, NoNumber, OverLimit}
 use Rattle.input.specs.declared.hex.Line.{Line}
 use Rattle.input.specs.declared.hex.Line.the-variants.{Empty, Request, Wrong}
-use Rattle.input.specs.Lines.{Parsed, ends, behind, isBlank, isStop, between, digitOf, isNumber, number, byteOf, faultOf, bytesIn, limitedBy, askedBy, parsed, Reads, Capped, tenfoldOf}
+use Rattle.input.specs.Lines.{Parsed, ends, behind, isBlank, isStop, between, digitOf, isNumber, number, byteOf, faultOf, bytesIn, limitedBy, askedBy, parsed, Reads, Capped, tenfoldOf, Usable}
 
 -- ---- characters
 
@@ -167,7 +168,7 @@ module _ (limit : ℕ) (text old : List ℕ) (start at n : ℕ) (request : List 
   unfolding put
   answered x e h l =
       let w : bytesIn limit (length old) 0 (drop start text) ≡ record { asks = x; bytes = take n request } =
-          g .whole ∙ ap (behind (take n request)) e ∙ ap (λ (b : List ℕ). record { asks = x; bytes = b }) (append-nil (take n request)) in
+      g .whole ∙ ap (behind (take n request)) e ∙ ap (λ (b : List ℕ). record { asks = x; bytes = b }) (append-nil (take n request)) in
       rw w (record {
         asks-is = refl;
         buffer-is = sym (take-append-drop n request) ∙ rw (zero-add, length-take-le n request (omega arith), g .rest);
@@ -183,7 +184,7 @@ module _ (limit : ℕ) (text old : List ℕ) (start at n : ℕ) (request : List 
   unfolding bytesIn
   going-odd f b h k e q =
       let one : drop at text ≡ getD text at 0 ∷ [] =
-          drop-cons text at 0 h ∙ ap (λ (l : List ℕ). getD text at 0 ∷ l) (drop-of-length-le text {i = suc at} (omega arith)) in
+      drop-cons text at 0 h ∙ ap (λ (l : List ℕ). getD text at 0 ∷ l) (drop-of-length-le text {i = suc at} (omega arith)) in
       answered (Wrong f) (rw (one, g .no-blank-here h, q, e))
 
   module _ (b : ℕ) (h : at < length text) (k : 2 ≤ length text - at) (e : b ≡ byteOf (getD text at 0) (getD text (at + 1) 0)) where
@@ -222,8 +223,8 @@ module _ (limit : ℕ) (text old : List ℕ) (start at n : ℕ) (request : List 
           no-blank-here = no-blank text (at + 2) r s;
         })
       where
-      rest-of : (xs : List ℕ) → drop 1 (drop n xs) ≡ drop (suc n) xs
-      rest-of xs = drop-drop 1 n xs ∙ ap (λ (k : ℕ). drop k xs) (add-one n)
+        rest-of : (xs : List ℕ) → drop 1 (drop n xs) ≡ drop (suc n) xs
+        rest-of xs = drop-drop 1 n xs ∙ ap (λ (k : ℕ). drop k xs) (add-one n)
 
 -- ---- the line
 
@@ -282,3 +283,62 @@ unfolding parsed
 without-comment most end line e =
     let n : end ≡ length (upTo 0x23 line) = omega arith in
     rw (n, take-until (λ x. eqb x 0x23) line)
+
+-- ---- what a request that was read keeps to: its limit, its buffer, and the number of its bytes (n of them before those read here)
+
+abbrev Kept : (most n : ℕ) → Line → List ℕ → Type 0
+Kept most n Empty bytes = Unit {0}
+Kept most n (Wrong f) bytes = Unit {0}
+Kept most n (Request limit m) bytes = (limit ≤ 65535) × (m ≤ most) × (m ≡ n + length bytes)
+
+kept-more : (most n b : ℕ) (x : Line) (bytes : List ℕ) → Kept most (suc n) x bytes → Kept most n x (b ∷ bytes)
+kept-more most n b Empty bytes k = tt
+kept-more most n b (Wrong f) bytes k = tt
+kept-more most n b (Request limit m) bytes k = (k .0, k .1, omega (arith, k .2))
+
+kept-bytes : (limit most n : ℕ) (text : List ℕ) → limit ≤ 65535 → n ≤ most → Kept most n (bytesIn limit most n text .asks) (bytesIn limit most n text .bytes)
+unfolding bytesIn
+kept-bytes limit most n [] h l = (h, l, omega arith)
+kept-bytes limit most n (x ∷ []) h l = pick-all (λ (p : Parsed). Kept most n (p .asks) (p .bytes)) (isBlank x) (h, l, omega arith) tt
+kept-bytes limit most n (x ∷ y ∷ text) h l =
+    let P : Parsed → Type 0 = λ p. Kept most n (p .asks) (p .bytes) in
+    pick-all P (isBlank x) (kept-bytes limit most n (y ∷ text) h l)
+    (pick-all P (ltb 255 (byteOf x y)) tt
+    (pick-by P (leb most n) (λ t. tt)
+    (λ t. kept-more most n (byteOf x y) (bytesIn limit most (suc n) text .asks) (bytesIn limit most (suc n) text .bytes)
+    (kept-bytes limit most (suc n) text h (leb-false most n t)))))
+
+kept-limited : (most : ℕ) (text : List ℕ) → Kept most 0 (limitedBy most text .asks) (limitedBy most text .bytes)
+unfolding limitedBy
+kept-limited most text =
+    let P : Parsed → Type 0 = λ p. Kept most 0 (p .asks) (p .bytes) in
+    let word = until isBlank text in
+    pick-all P (isNumber word)
+    (pick-by P (ltb 65535 (number 0 word)) (λ t. tt) (λ t. kept-bytes _ most 0 _ (ltb-false 65535 (number 0 word) t) (omega arith))) tt
+
+kept-asked : (most : ℕ) (text : List ℕ) → Kept most 0 (askedBy most text .asks) (askedBy most text .bytes)
+unfolding askedBy
+kept-asked most [] = tt
+kept-asked most (c ∷ text) =
+    let P : Parsed → Type 0 = λ p. Kept most 0 (p .asks) (p .bytes) in
+    pick-all P (isBlank c) (kept-asked most text)
+    (pick-all P (eqb c 0x40) (kept-limited most text) (kept-bytes 500 most 0 (c ∷ text) (omega arith) (omega arith)))
+
+pub kept : (most : ℕ) (line : List ℕ) → Kept most 0 (parsed most line .asks) (parsed most line .bytes)
+unfolding parsed
+kept most line = kept-asked most (upTo 0x23 line)
+
+kept-usable : (most : ℕ) (x : Line) (bytes : List ℕ) → Kept most 0 x bytes → Usable most x
+kept-usable most Empty bytes k = tt
+kept-usable most (Wrong f) bytes k = tt
+kept-usable most (Request limit n) bytes k = (k .0, k .1)
+
+pub usable : (most : ℕ) (line : List ℕ) → Usable most (parsed most line .asks)
+usable most line = kept-usable most (parsed most line .asks) (parsed most line .bytes) (kept most line)
+
+-- the same from what `parse` ensures, of a line that asks a request
+pub request-is : {limit n : ℕ} {old new : List ℕ} (line : List ℕ) (x : Line) → x ≡ Request limit n → Reads (parsed (length old) line) old x new
+    → (limit ≤ 65535) × (n ≤ length old) × (n ≡ length (parsed (length old) line .bytes))
+request-is {old = old} line x e r =
+    let k = subst (λ (y : Line). Kept (length old) 0 y (parsed (length old) line .bytes)) (sym (r .asks-is) ∙ e) (kept (length old) line) in
+    (k .0, k .1, omega (arith, k .2))

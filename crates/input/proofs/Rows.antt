@@ -5,7 +5,7 @@ use Prim.Native.Nat.{ℕ, zero, suc, _+_, _*_, _<_, _≤_}
 use native.Mathlib.Omega.{arith}
 use native.Mathlib.Numerals.{add-one}
 use native.Mathlib.Nat.{add-zero, mul-suc, mul-zero}
-use lib.ListN.{length, take, set}
+use lib.ListN.{length, take, set, length-set}
 use lib.Seq.{take-suc-set}
 use Rattle.definition.specs.Bytes.{u32At}
 use Rattle.input.specs.Rows.{wordsAt, rowsAt}
@@ -34,18 +34,32 @@ pub word-filled : (src : List ℕ) (at : ℕ) (row : List ℕ) (j k v : ℕ)
     → take j row ≡ wordsAt src at j → j < length row → v ≡ u32At src (at + 4 * j) → k ≡ j + 1 → take k (set row j v) ≡ wordsAt src at k
 word-filled src at = filled (wordsAt src at) (λ j. u32At src (at + 4 * j)) (words-more src at)
 
-pub row-filled : (src : List ℕ) (at width : ℕ) (rows : List (List ℕ)) (i k : ℕ) (row : List ℕ)
-    → take i rows ≡ rowsAt src at width i → i < length rows → row ≡ wordsAt src (at + 4 * width * i) width → k ≡ i + 1
-    → take k (set rows i row) ≡ rowsAt src at width k
-row-filled src at width = filled (rowsAt src at width) (λ i. wordsAt src (at + 4 * width * i) width) (rows-more src at width)
-
 pub no-words : (src : List ℕ) (at : ℕ) → [] ≡ wordsAt src at 0
 unfolding wordsAt
 no-words src at = refl
+
+pub to-the-end : {A : Type 0} (f : ℕ → List A) (xs : List A) (i n : ℕ) → take i xs ≡ f i → i ≤ n → n ≤ i → take n xs ≡ f n
+to-the-end f xs i n e h l = let m : i ≡ n = omega arith in rw m at e
 
 pub no-rows : (src : List ℕ) (at width : ℕ) → [] ≡ rowsAt src at width 0
 unfolding rowsAt
 no-rows src at width = refl
 
-pub to-the-end : {A : Type 0} (f : ℕ → List A) (xs : List A) (i n : ℕ) → take i xs ≡ f i → i ≤ n → n ≤ i → take n xs ≡ f n
-to-the-end f xs i n e h l = let m : i ≡ n = omega arith in rw m at e
+-- ---- a table: i of its n rows are read, and there is room for `most`
+
+abbrev pub RowsRead : (src : List ℕ) (at width most n : ℕ) (rows : List (List ℕ)) (i : ℕ) → Type 0
+RowsRead src at width most n rows i = (i ≤ n) × (length rows ≡ most) × (take i rows ≡ rowsAt src at width i)
+
+module _ (src : List ℕ) (at width most n : ℕ) (rows : List (List ℕ)) (i : ℕ) (so-far : RowsRead src at width most n rows i) where
+  pub one-row : (row : List ℕ) → i < n → n ≤ most → row ≡ wordsAt src (at + 4 * width * i) width
+      → RowsRead src at width most n (set rows i row) (i + 1)
+  one-row row h l e =
+      let long : length rows ≡ most = so-far .1 in (
+        omega arith,
+        simp length-set long,
+        filled (rowsAt src at width) (λ k. wordsAt src (at + 4 * width * k) width) (rows-more src at width) rows i (i + 1) row
+            (so-far .2) (omega arith) e refl,
+      )
+
+  pub all-rows : n ≤ i → (most ≡ length rows) × (take n rows ≡ rowsAt src at width n)
+  all-rows h = (sym (so-far .1), to-the-end (rowsAt src at width) rows i n (so-far .2) (so-far .0) h)

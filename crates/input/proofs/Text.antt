@@ -51,9 +51,9 @@ take-until p (x ∷ l) = by-test (p x) (λ t. rw t) (λ t. rw t (ap (λ (k : Lis
 module _ (xs : List ℕ) (from j : ℕ) (h : from + j < length xs) where
   pub still-there : getD (paste xs 0 (drop from xs) j) (from + j) 0 ≡ getD (drop from xs) j 0
   still-there =
-      let d : drop j (paste xs 0 (drop from xs) j) ≡ drop j xs = 
-          ap (λ (k : ℕ). drop k (paste xs 0 (drop from xs) j)) (sym (zero-add j))
-          ∙ drop-paste xs 0 (drop from xs) j (omega arith) (rw length-drop (omega arith)) ∙ ap (λ (k : ℕ). drop k xs) (zero-add j) in
+      let d : drop j (paste xs 0 (drop from xs) j) ≡ drop j xs =
+      ap (λ (k : ℕ). drop k (paste xs 0 (drop from xs) j)) (sym (zero-add j))
+      ∙ drop-paste xs 0 (drop from xs) j (omega arith) (rw length-drop (omega arith)) ∙ ap (λ (k : ℕ). drop k xs) (zero-add j) in
       ap (λ (k : ℕ). getD (paste xs 0 (drop from xs) j) k 0) (add-comm from j)
       ∙ sym (getD-drop j (paste xs 0 (drop from xs) j) from 0) ∙ ap (λ (l : List ℕ). getD l from 0) d ∙ getD-drop j xs from 0
       ∙ ap (λ (k : ℕ). getD xs k 0) (add-comm j from) ∙ sym (getD-drop from xs j 0)
@@ -65,7 +65,7 @@ moved-more xs ys from i k e h l t =
     let b : k - from ≡ suc (i - from) = omega arith in
     let m : from + (i - from) < length xs = omega arith in
     let v : getD ys i 0 ≡ getD (drop from xs) (i - from) 0 =
-        ap (λ (z : List ℕ). getD z i 0) e ∙ ap (λ (n : ℕ). getD (paste xs 0 (drop from xs) (i - from)) n 0) a ∙ still-there xs from (i - from) m in
+    ap (λ (z : List ℕ). getD z i 0) e ∙ ap (λ (n : ℕ). getD (paste xs 0 (drop from xs) (i - from)) n 0) a ∙ still-there xs from (i - from) m in
     ap (λ (w : ℕ). set ys (i - from) w) v ∙ ap (λ (z : List ℕ). set z (i - from) (getD (drop from xs) (i - from) 0)) e
     ∙ ap (λ (n : ℕ). set (paste xs 0 (drop from xs) (i - from)) n (getD (drop from xs) (i - from) 0)) (sym (zero-add (i - from)))
     ∙ paste-suc xs 0 (drop from xs) (i - from) 0 (omega arith) (rw length-drop (omega arith)) ∙ ap (paste xs 0 (drop from xs)) (sym b)
@@ -113,7 +113,7 @@ pub after-read : (old came new : List ℕ) (at n r : ℕ) → at < length old �
 after-read old came new at n r h l k s e left =
     let rest = drop (length old - at) (drop at old) in
     let as-long : length (take at old ++ (came ++ rest)) ≡ length old =
-        simp (length-append, length-take-le at old (omega arith), length-drop) (omega arith) in
+    simp (length-append, length-take-le at old (omega arith), length-drop) (omega arith) in
     let front = lent-front old came rest at (omega arith) in
     record {
       came = n;

@@ -6,7 +6,6 @@ ghost use Rattle.laws.specs.Put.{put};
 ghost use Rattle.input.specs.Text.{until};
 ghost use Rattle.input.specs.Lines.{isBlank, isDecimal, isStop, digitOf, isNumber, number, byteOf, faultOf, bytesIn, limitedBy, askedBy, parsed, tenfoldOf, Capped, Reads};
 
-
 /// The limit where a line names none.
 const USUAL_LIMIT: usize = 500;
 

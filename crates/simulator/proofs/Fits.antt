@@ -1,6 +1,5 @@
--- A reply lies in the buffer that it was made in, and a request in the one that it was read into.
+-- A reply lies in the buffer that it was made in.
 use mathlib.Core.List.{List}
-use mathlib.Core.Path.{_≡_, subst}
 use Prim.Native.Nat.{ℕ, _≤_}
 use native.Mathlib.Omega.{arith}
 use lib.ListN.{length}
@@ -8,13 +7,7 @@ use Rattle.definition.specs.Tables.{Tables, Flags}
 use Rattle.definition.specs.Answer.{answer}
 use Rattle.definition.proofs.Replies.{proper-answer}
 use Rattle.services.specs.Answers.{Answers}
-use Rattle.input.specs.Lines.{Usable}
-use Rattle.input.specs.declared.hex.Line.{Line}
-use Rattle.input.specs.declared.hex.Line.the-variants.{Request}
 
 pub reply-fits : (t : Tables) (f : Flags) (memory request : List ℕ) {limit r : ℕ} {old new left : List ℕ}
     → Answers limit (answer t f memory request limit) old r new left → limit ≤ 65535 → 65535 ≤ length old → r ≤ length old
 reply-fits t f memory request {limit} a l b = omega (arith, a .length-is, l, b, proper-answer t f memory request limit .fits)
-
-pub request-fits : {most limit n : ℕ} (x : Line) → x ≡ Request limit n → Usable most x → (limit ≤ 65535) × (n ≤ most)
-request-fits {most} x e u = subst (Usable most) e u

@@ -4,9 +4,9 @@ ghost use mathlib.Core.Bool.{true, false};
 ghost use Prim.Native.Nat.{_+_, _≤_};
 ghost use lib.ListN.{length};
 ghost use Rattle.simulator.specs.Images.{Few, rowsSize, storesSize, imageSize};
-use input::image_rows;
 use crate::say;
 use crate::session;
+use input::image_rows;
 use model::Flags;
 
 /// The flags, the rows of each table and the bytes of each store.

@@ -5,13 +5,13 @@ ghost use Prim.Native.Nat.{_≤_};
 ghost use lib.ListN.{length};
 ghost use Rattle.definition.specs.Valid.{valid};
 ghost use Rattle.model.specs.Tables.{tablesOf};
+use crate::lines;
+use crate::reply;
+use crate::say;
 use input::hex;
 use input::hex::Fault;
 use input::hex::Line;
-use crate::lines;
 use input::lines::Place;
-use crate::reply;
-use crate::say;
 use model::Flags;
 use tables::rules::Told;
 

@@ -1,19 +1,15 @@
+-- The two bounds of the arm are those of the definition.
 use Rattle.laws.proofs.Chain.{chain, tests}
 use borrow.Author.Needs.{needs}
 use Rattle.input.proofs.hex.is_decimal.Statement.{statement}
 use Rattle.input.proofs.hex.is_decimal.Tie as tie
-use Rattle.input.proofs.hex.is_decimal.Reads as reads
-use Rattle.input.proofs.hex.is_decimal.Lts as lts
 
--- src/hex.rt:74:1
 returns : tie.Need-returns
 returns c = search (needs, chain, tests)
 
--- src/hex.rt:74:1
 returns-2 : tie.Need-returns-2
 returns-2 c = search (needs, chain, tests)
 
--- src/hex.rt:74:1
 returns-3 : tie.Need-returns-3
 returns-3 c = search (needs, chain, tests)
 

@@ -1,78 +1,29 @@
-use Rattle.input.proofs.Rows.{to-the-end}
-use Prim.Native.Nat.{_≤_, _-_}
-use mathlib.Core.Path.{_≡_, refl, _∙_}
-use lib.ListN.{length, take, length-set}
-use Rattle.input.specs.Rows.{rowsAt}
-use Rattle.input.proofs.Rows.{no-rows, row-filled}
+-- Each turn adds the next row behind those that are there.
+use Prim.Native.Nat.{_-_}
+use Rattle.input.proofs.Rows.{RowsRead, no-rows, one-row, all-rows}
 use borrow.Author.Needs.{needs}
 use Rattle.input.proofs.image_rows.tags.Statement.{statement}
 use Rattle.input.proofs.image_rows.tags.Tie as tie
-use Rattle.input.proofs.image_rows.tags.Reads as reads
-use Rattle.input.proofs.image_rows.tags.Lts as lts
-use Rattle.input.proofs.image_rows.words.Reads as words-reads
 
 abbrev Inv-loop : tie.InvT-loop
-Inv-loop src at n rows₀ i₀ rows i = (i ≤ n) × (length rows ≡ 1024) × (take i rows ≡ rowsAt src at 12 i)
+Inv-loop src at n rows₀ i₀ rows i = RowsRead src at 12 1024 n rows i
 
 abbrev μ-loop : tie.MeasureT-loop
 μ-loop src at n rows₀ i₀ rows i = n - i
 
--- src/image_rows.rt:70:5
 loop-holds : tie.Need-loop-holds Inv-loop μ-loop
-loop-holds c = (search needs, search needs, no-rows _ _ _)
+loop-holds c = (search needs, search needs, no-rows _ _ 12)
 
--- src/image_rows.rt:72:15
-slice-aggregate-words : tie.Need-slice-aggregate-words Inv-loop μ-loop
-slice-aggregate-words c = search needs
-
--- src/image_rows.rt:72:35
-mul-words : tie.Need-mul-words Inv-loop μ-loop
-mul-words c = search needs
-
--- src/image_rows.rt:72:30
-add-words : tie.Need-add-words Inv-loop μ-loop
-add-words c = search needs
-
--- src/image_rows.rt:72:9
-words-requires : tie.Need-words-requires Inv-loop μ-loop
-words-requires c κs = search needs
-
--- src/image_rows.rt:73:9
-mul-rows : tie.Need-mul-rows Inv-loop μ-loop
-mul-rows c = search needs
-
--- src/image_rows.rt:73:9
-array-set-from-rows : tie.Need-array-set-from-rows Inv-loop μ-loop
-array-set-from-rows c = search needs
-
--- src/image_rows.rt:74:9
-add-i : tie.Need-add-i Inv-loop μ-loop
-add-i c = search needs
-
--- src/image_rows.rt:70:5
-loop-less : tie.Need-loop-less Inv-loop μ-loop
-loop-less c = search needs
-
--- src/image_rows.rt:70:5
 loop-again : tie.Need-loop-again Inv-loop μ-loop
 loop-again c =
-    let loop = c .before .before .before .before .loop in
-    (
-      search needs,
-      simp length-set (loop .inv .1),
-      row-filled _ _ 12 _ _ _ _ (loop .inv .2) (search needs) (c .before .words .ensures) refl,
-    )
+    let back = c .before .before .before in let loop-test = back .loop-test in
+    let loop = back .before .loop in
+    let start = back .before .before .before in
+    one-row _ _ 12 1024 (start .args .n) _ _ (loop .inv) _ (loop-test .taken) (start .pre .0)
+    (c .before .words .ensures)
 
--- src/image_rows.rt:64:1
 returns : tie.Need-returns Inv-loop μ-loop
-returns c =
-    let loop = c .before .loop in
-    let args = c .before .before .before .args in
-    (
-      search needs,
-      to-the-end (rowsAt (args .src .now) (args .at) 12) (loop .rows) (loop .i) (args .n) (loop .inv .2) (search needs)
-      (search needs),
-    )
+returns c = all-rows _ _ 12 1024 _ _ _ (c .before .loop .inv) (c .loop-test .left)
 
 pub tags-spec : {M : Type 1} → statement M
 tags-spec =
@@ -81,13 +32,13 @@ tags-spec =
     Inv-loop
     μ-loop
     loop-holds
-    slice-aggregate-words
-    mul-words
-    add-words
-    words-requires
-    mul-rows
-    array-set-from-rows
-    add-i
-    loop-less
+    (λ c. search needs)
+    (λ c. search needs)
+    (λ c. search needs)
+    (λ c κs. search needs)
+    (λ c. search needs)
+    (λ c. search needs)
+    (λ c. search needs)
+    (λ c. search needs)
     loop-again
     returns)

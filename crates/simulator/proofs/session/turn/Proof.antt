@@ -1,3 +1,4 @@
+-- The lines that were read lie in the input, and the unfinished one too.
 use mathlib.Core.Path.{sym}
 use native.Mathlib.Omega.{arith}
 use lib.Seq.{length-take-le}
@@ -10,13 +11,19 @@ slice-aggregate-serve-lines c = sym (length-take-le _ _ (omega arith))
 
 serve-lines-requires : tie.Need-serve-lines-requires
 serve-lines-requires c κs =
-    let whole = length-take-le (c .before .before .before .before .before .before .before .read-more .result) (c .before .before .before .before .before .before .before .read-more .last .0) (omega arith) in
-    (search needs, search needs, omega (arith, whole), c .before .before .before .before .before .before .before .before .before .before .before .before .before .before .before .before .before .pre .4)
+    let read-more = c .before .before .before .before .before .before .before .read-more in
+    let pre = c .before .before .before .before .before .before .before .before .before .before .before .before .before
+    .before .before .before .before .pre in
+    let whole = length-take-le (read-more .result) (read-more .last .0) (omega arith) in
+    (search needs, search needs, omega (arith, whole), pre .4)
 
 shift-requires : tie.Need-shift-requires
 shift-requires c κs =
-    let whole = length-take-le (c .before .before .before .before .before .before .before .before .before .before .before .before .before .before .before .read-more .result) (c .before .before .before .before .before .before .before .before .before .before .before .before .before .before .before .read-more .last .0) (omega arith) in
-    (omega (arith, whole, c .before .before .before .before .before .before .before .serve-lines .ensures), omega arith)
+    let serve-lines = c .before .before .before .before .before .before .before .serve-lines in
+    let read-more = c .before .before .before .before .before .before .before .before .before .before .before .before
+    .before .before .before .read-more in
+    let whole = length-take-le (read-more .result) (read-more .last .0) (omega arith) in
+    (omega (arith, whole, serve-lines .ensures), omega arith)
 
 pub turn-spec : {M : Type 1} → statement M
 turn-spec =
