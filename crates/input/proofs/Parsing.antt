@@ -1,17 +1,16 @@
 -- What a line asks: the turns of the loops that read it. Assumes nothing.
 use mathlib.Core.Path.{_≡_, refl, sym, ap, subst, _∙_}
 use mathlib.Core.Logic.{_⊎_, inl, inr}
-use mathlib.Core.Bool.{Bool, true, false, not}
+use mathlib.Core.Bool.{Bool, true, false}
 use mathlib.Core.List.{List, [], _∷_, _++_, append-nil, append-assoc}
-use Prim.Native.Nat.{ℕ, zero, suc, _+_, _-_, _*_, _<_, _≤_}
+use Prim.Native.Nat.{ℕ, suc, _+_, _-_, _*_, _<_, _≤_}
 use native.Mathlib.Omega.{arith}
 use native.Mathlib.Numerals.{add-one}
 use native.Mathlib.Nat.{zero-add}
 use lib.Dec.{ltb, leb, eqb}
-use lib.ListN.{length, getD, take, drop, set, length-set, length-drop, drop-of-length-le, take-append-drop}
+use lib.ListN.{length, getD, take, drop, set, length-drop, drop-of-length-le, take-append-drop}
 use lib.Seq.{take-suc, take-all, drop-cons, drop-drop, getD-drop, length-take-le, take-suc-set, drop-set-lt}
-use borrow.Author.Tests.{eq-eqb, ne-eqb, lt-leb, lt-ltb, le-ltb, le-leb, leb-false, ltb-true, ltb-false, not-true}
-use Rattle.laws.specs.Pick.{pick, both, either}
+use borrow.Author.Tests.{ne-eqb, lt-leb, lt-ltb, le-ltb, le-leb, leb-false, ltb-true, ltb-false, not-true}
 use Rattle.laws.proofs.Chain.{either-no, both-off, both-off-2, by-test, pick-all}
 use Rattle.laws.proofs.Tests.{pick-by}
 use Rattle.laws.specs.Put.{put}
@@ -22,7 +21,8 @@ use Rattle.input.specs.declared.hex.Fault.{Fault}
 use Rattle.input.specs.declared.hex.Fault.the-variants.{TooLong, NoNumber, OverLimit}
 use Rattle.input.specs.declared.hex.Line.{Line}
 use Rattle.input.specs.declared.hex.Line.the-variants.{Empty, Request, Wrong}
-use Rattle.input.specs.Lines.{Parsed, ends, behind, isBlank, isStop, between, digitOf, isNumber, number, byteOf, faultOf, bytesIn, limitedBy, askedBy, parsed, Reads, Capped, tenfoldOf, Usable}
+use Rattle.input.specs.Lines.{Parsed, ends, behind, isBlank, between, digitOf, isNumber, number, byteOf, faultOf, bytesIn, limitedBy, askedBy, parsed}
+use Rattle.input.specs.Lines.{Reads, isStop, Capped, tenfoldOf, Usable}
 
 -- ---- characters
 
@@ -101,7 +101,8 @@ capped-more exact n c r k e =
     let under = ltb-false 6553 n t in
     record {
       small = λ s. omega (arith, k .small (omega arith));
-      large = λ s. by-test (ltb 65535 exact) (λ u. absurd (omega (arith, k .large (ltb-true 65535 exact u)))) (λ u. omega (arith, k .small (ltb-false 65535 exact u)));
+      large = λ s. by-test (ltb 65535 exact) (λ u. absurd (omega (arith, k .large (ltb-true 65535 exact u))))
+          (λ u. omega (arith, k .small (ltb-false 65535 exact u)));
     })
 
 pub counted-more : (word : List ℕ) (i n j r : ℕ) → Capped (number 0 (take i word)) n → i < length word → r ≡ tenfoldOf n (getD word i 0) → j ≡ i + 1
@@ -154,7 +155,8 @@ pub record Going (limit : ℕ) (text old : List ℕ) (start at n : ℕ) (request
   pub rest : drop n request ≡ drop n old
   pub no-blank-here : at < length text → isBlank (getD text at 0) ≡ false
 
-pub going-start : (limit : ℕ) (text old : List ℕ) (start at : ℕ) → at ≡ start + length (until (isStop false) (drop start text)) → Going limit text old start at 0 old
+pub going-start : (limit : ℕ) (text old : List ℕ) (start at : ℕ) → at ≡ start + length (until (isStop false) (drop start text))
+    → Going limit text old start at 0 old
 going-start limit text old start at e = record {
   whole = skip-to (bytesIn limit (length old) 0) (bytes-over limit (length old) 0) text start at e;
   rest = refl;

@@ -3,7 +3,7 @@ use mathlib.Core.Path.{_≡_, refl}
 use mathlib.Core.List.{[], _∷_}
 use Rattle.laws.specs.Tests.{every}
 use Rattle.input.specs.Text.{until}
-use Rattle.input.specs.Lines.{Parsed, digitOf, isNumber, number, byteOf, bytesIn, limitedBy, askedBy, parsed}
+use Rattle.input.specs.Lines.{digitOf, isNumber, number, byteOf, bytesIn, limitedBy, askedBy, parsed}
 use Rattle.input.specs.declared.hex.Fault.the-variants.{Odd}
 use Rattle.input.specs.declared.hex.Line.the-variants.{Request, Wrong, Empty}
 

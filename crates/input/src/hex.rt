@@ -1,10 +1,10 @@
 // A line of input: an optional `@LIMIT`, then the request's bytes as two hex digits each; `#` starts a comment.
 ghost use mathlib.Core.Path.{_≡_};
-ghost use Prim.Native.Nat.{_+_, _≤_, _<_};
+ghost use Prim.Native.Nat.{_+_, _≤_};
 ghost use lib.ListN.{length, drop};
-ghost use Rattle.laws.specs.Put.{put};
 ghost use Rattle.input.specs.Text.{until};
-ghost use Rattle.input.specs.Lines.{isBlank, isDecimal, isStop, digitOf, isNumber, number, byteOf, faultOf, bytesIn, limitedBy, askedBy, parsed, tenfoldOf, Capped, Reads};
+ghost use Rattle.input.specs.Lines.{isBlank, isDecimal, digitOf, isNumber, number, byteOf, faultOf, bytesIn, limitedBy, askedBy, parsed};
+ghost use Rattle.input.specs.Lines.{isStop, tenfoldOf, Capped, Reads};
 
 /// The limit where a line names none.
 const USUAL_LIMIT: usize = 500;
@@ -93,7 +93,7 @@ fn is_number(word: &[u8]) -> bool
     word.len() > 0
 }
 
-/// A number with one more digit; 65,536 stands for all that is over 65,535.
+/// A number with one more digit; over 65,535 it is some number over that.
 fn tenfold(n: usize, c: u8) -> usize
     ensures { λ r. ⌜ r ≡ tenfoldOf n c ⌝ }
 {
