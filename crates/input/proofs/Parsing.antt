@@ -15,8 +15,8 @@ use Rattle.laws.proofs.Chain.{either-no, both-off, both-off-2, by-test, pick-al
 use Rattle.laws.proofs.Tests.{pick-by}
 use Rattle.laws.specs.Put.{put}
 use Rattle.laws.proofs.Put.{put-none}
-use Rattle.input.specs.Text.{until, upTo}
-use Rattle.input.proofs.Text.{take-until}
+use Rattle.input.specs.Text.{stretch, upTo}
+use Rattle.input.proofs.Text.{take-stretch}
 use Rattle.input.specs.declared.hex.Fault.{Fault}
 use Rattle.input.specs.declared.hex.Fault.the-variants.{TooLong, NoNumber, OverLimit}
 use Rattle.input.specs.declared.hex.Line.{Line}
@@ -115,27 +115,27 @@ all-counted word i n k h = rw (take-all i word h) at k
 
 -- ---- blanks that are skipped
 
-until-stops : (p : ℕ → Bool) (l : List ℕ) → length (until p l) < length l → p (getD l (length (until p l)) 0) ≡ true
-unfolding until
-until-stops p [] h = absurd (omega arith)
-until-stops p (x ∷ l) h =
-    by-test (p x) (λ t. rw t t) (λ t. rw t (until-stops p l (omega (arith, rw t at h))))
+stretch-stops : (p : ℕ → Bool) (l : List ℕ) → length (stretch p l) < length l → p (getD l (length (stretch p l)) 0) ≡ true
+unfolding stretch
+stretch-stops p [] h = absurd (omega arith)
+stretch-stops p (x ∷ l) h =
+    by-test (p x) (λ t. rw t t) (λ t. rw t (stretch-stops p l (omega (arith, rw t at h))))
 
 -- a reading that goes over blanks gives the same from the first character that is none
 module _ {A : Type 0} (f : List ℕ → A) (over : (x : ℕ) (l : List ℕ) → isBlank x ≡ true → f (x ∷ l) ≡ f l) where
-  skip : (l : List ℕ) → f l ≡ f (drop (length (until (isStop false) l)) l)
-  unfolding until
+  skip : (l : List ℕ) → f l ≡ f (drop (length (stretch (isStop false) l)) l)
+  unfolding stretch
   skip [] = refl
   skip (x ∷ l) =
       by-test (isBlank x) (λ t. rw t (over x l t ∙ skip l))
-      (λ t. let u : until (isStop false) (x ∷ l) ≡ [] = rw t in ap (λ (k : List ℕ). f (drop (length k) (x ∷ l))) (sym u))
+      (λ t. let u : stretch (isStop false) (x ∷ l) ≡ [] = rw t in ap (λ (k : List ℕ). f (drop (length k) (x ∷ l))) (sym u))
 
-  pub skip-to : (text : List ℕ) (at r : ℕ) → r ≡ at + length (until (isStop false) (drop at text)) → f (drop at text) ≡ f (drop r text)
-  skip-to text at r e = skip (drop at text) ∙ ap f (drop-drop (length (until (isStop false) (drop at text))) at text ∙ ap (λ (k : ℕ). drop k text) (sym e))
+  pub skip-to : (text : List ℕ) (at r : ℕ) → r ≡ at + length (stretch (isStop false) (drop at text)) → f (drop at text) ≡ f (drop r text)
+  skip-to text at r e = skip (drop at text) ∙ ap f (drop-drop (length (stretch (isStop false) (drop at text))) at text ∙ ap (λ (k : ℕ). drop k text) (sym e))
 
-pub no-blank : (text : List ℕ) (at r : ℕ) → r ≡ at + length (until (isStop false) (drop at text)) → r < length text → isBlank (getD text r 0) ≡ false
+pub no-blank : (text : List ℕ) (at r : ℕ) → r ≡ at + length (stretch (isStop false) (drop at text)) → r < length text → isBlank (getD text r 0) ≡ false
 no-blank text at r e h =
-    let s = until-stops (isStop false) (drop at text) (rw length-drop (omega arith)) in
+    let s = stretch-stops (isStop false) (drop at text) (rw length-drop (omega arith)) in
     ap (λ (k : ℕ). isBlank (getD text k 0)) e ∙ ap isBlank (sym (getD-drop at text _ 0)) ∙ not-true _ s
 
 bytes-over : (limit most n x : ℕ) (l : List ℕ) → isBlank x ≡ true → bytesIn limit most n (x ∷ l) ≡ bytesIn limit most n l
@@ -155,7 +155,7 @@ pub record Going (limit : ℕ) (text old : List ℕ) (start at n : ℕ) (request
   pub rest : drop n request ≡ drop n old
   pub no-blank-here : at < length text → isBlank (getD text at 0) ≡ false
 
-pub going-start : (limit : ℕ) (text old : List ℕ) (start at : ℕ) → at ≡ start + length (until (isStop false) (drop start text))
+pub going-start : (limit : ℕ) (text old : List ℕ) (start at : ℕ) → at ≡ start + length (stretch (isStop false) (drop start text))
     → Going limit text old start at 0 old
 going-start limit text old start at e = record {
   whole = skip-to (bytesIn limit (length old) 0) (bytes-over limit (length old) 0) text start at e;
@@ -211,7 +211,7 @@ module _ (limit : ℕ) (text old : List ℕ) (start at n : ℕ) (request : List 
     one-more o f = rw (two, g .no-blank-here h, ← e, le-ltb 255 b o, lt-leb (length old) n f)
 
     pub going-more : (r m : ℕ) → b ≤ 255 → n < length old → length request ≡ length old → m ≡ n + 1
-        → r ≡ at + 2 + length (until (isStop false) (drop (at + 2) text)) → Going limit text old start r m (set request n b)
+        → r ≡ at + 2 + length (stretch (isStop false) (drop (at + 2) text)) → Going limit text old start r m (set request n b)
     going-more r m o f l t s =
         let q : m ≡ suc n = omega arith in
         let skipped = skip-to (bytesIn limit (length old) (suc n)) (bytes-over limit (length old) (suc n)) text (at + 2) r s in
@@ -237,34 +237,34 @@ reads-as e s = rw e s
 pub reads-none : {q : Parsed} {r : Line} (old : List ℕ) → q ≡ ends r → Reads q old r old
 reads-none old e = rw e (record { asks-is = refl; buffer-is = sym (put-none old 0) })
 
-module _ (most at end : ℕ) (text : List ℕ) (ends-at : end ≡ at + length (until isBlank (drop at text))) where
-  word-is : take (end - at) (drop at text) ≡ until isBlank (drop at text)
+module _ (most at end : ℕ) (text : List ℕ) (ends-at : end ≡ at + length (stretch isBlank (drop at text))) where
+  word-is : take (end - at) (drop at text) ≡ stretch isBlank (drop at text)
   word-is =
-      let n : end - at ≡ length (until isBlank (drop at text)) = omega arith in
-      ap (λ (k : ℕ). take k (drop at text)) n ∙ take-until isBlank (drop at text)
+      let n : end - at ≡ length (stretch isBlank (drop at text)) = omega arith in
+      ap (λ (k : ℕ). take k (drop at text)) n ∙ take-stretch isBlank (drop at text)
 
   pub no-number : isNumber (take (end - at) (drop at text)) ≡ false → limitedBy most (drop at text) ≡ ends (Wrong NoNumber)
   unfolding limitedBy
   no-number f = rw (rw word-is at f)
 
   module _ (n : ℕ) (is : isNumber (take (end - at) (drop at text)) ≡ true) (counts : Capped (number 0 (take (end - at) (drop at text))) n) where
-    counted : Capped (number 0 (until isBlank (drop at text))) n
+    counted : Capped (number 0 (stretch isBlank (drop at text))) n
     counted = rw word-is at counts
 
     pub over-limit : 65535 < n → limitedBy most (drop at text) ≡ ends (Wrong OverLimit)
     unfolding limitedBy
     over-limit h =
-        by-test (ltb 65535 (number 0 (until isBlank (drop at text)))) (λ t. rw (rw word-is at is, t))
-        (λ t. let l = ltb-false 65535 (number 0 (until isBlank (drop at text))) t in absurd (omega (arith, counted .small l)))
+        by-test (ltb 65535 (number 0 (stretch isBlank (drop at text)))) (λ t. rw (rw word-is at is, t))
+        (λ t. let l = ltb-false 65535 (number 0 (stretch isBlank (drop at text))) t in absurd (omega (arith, counted .small l)))
 
     pub has-limit : n ≤ 65535 → limitedBy most (drop at text) ≡ bytesIn n most 0 (drop end text)
     unfolding limitedBy
     has-limit h =
-        by-test (ltb 65535 (number 0 (until isBlank (drop at text))))
+        by-test (ltb 65535 (number 0 (stretch isBlank (drop at text))))
         (λ t. absurd (omega (arith, counted .large (ltb-true _ _ t))))
         (λ t. rw (rw word-is at is, t, ← (counted .small (ltb-false _ _ t)), drop-drop, ← ends-at))
 
-module _ (most at : ℕ) (text : List ℕ) (skips : at ≡ 0 + length (until (isStop false) (drop 0 text))) where
+module _ (most at : ℕ) (text : List ℕ) (skips : at ≡ 0 + length (stretch (isStop false) (drop 0 text))) where
   skipped : askedBy most text ≡ askedBy most (drop at text)
   skipped = skip-to (askedBy most) (asked-over most) text 0 at skips
 
@@ -284,7 +284,7 @@ pub without-comment : (most end : ℕ) (line : List ℕ) → end ≡ 0 + length 
 unfolding parsed
 without-comment most end line e =
     let n : end ≡ length (upTo 0x23 line) = omega arith in
-    rw (n, take-until (λ x. eqb x 0x23) line)
+    rw (n, take-stretch (λ x. eqb x 0x23) line)
 
 -- ---- what a request that was read keeps to: its limit, its buffer, and the number of its bytes (n of them before those read here)
 
@@ -314,7 +314,7 @@ kept-limited : (most : ℕ) (text : List ℕ) → Kept most 0 (limitedBy most te
 unfolding limitedBy
 kept-limited most text =
     let P : Parsed → Type 0 = λ p. Kept most 0 (p .asks) (p .bytes) in
-    let word = until isBlank text in
+    let word = stretch isBlank text in
     pick-all P (isNumber word)
     (pick-by P (ltb 65535 (number 0 word)) (λ t. tt) (λ t. kept-bytes _ most 0 _ (ltb-false 65535 (number 0 word) t) (omega arith))) tt
 

@@ -15,35 +15,33 @@ use lib.Seq.{take-at, getD-set-same, drop-cons, getD-drop, length-take-le, drop-
 use Rattle.laws.specs.Put.{put}
 use Rattle.laws.proofs.Chain.{by-test, pick-all}
 use Rattle.laws.proofs.Put.{set-put}
-use Rattle.input.specs.Text.{until, endAfter, leftAfter, More}
+use Rattle.input.specs.Text.{stretch, endAfter, leftAfter, More}
 
-pub until-short : (p : ℕ → Bool) (l : List ℕ) → length (until p l) ≤ length l
-unfolding until
-until-short p [] = omega arith
-until-short p (x ∷ l) = by-test (p x) (λ t. rw t (omega arith)) (λ t. rw t (omega (arith, until-short p l)))
+pub stretch-short : (p : ℕ → Bool) (l : List ℕ) → length (stretch p l) ≤ length l
+unfolding stretch
+stretch-short p [] = omega arith
+stretch-short p (x ∷ l) = by-test (p x) (λ t. rw t (omega arith)) (λ t. rw t (omega (arith, stretch-short p l)))
 
 -- where it is found from `from` on: none of those from there to i passed
-module _ (p : ℕ → Bool) (xs : List ℕ) (from i : ℕ) (here : from + length (until p (drop from xs)) ≡ i + length (until p (drop i xs))) where
-  pub until-next : {r : Bool} {j : ℕ} → i < length xs → r ≡ p (getD xs i 0) → r ≡ false → j ≡ i + 1
-      → from + length (until p (drop from xs)) ≡ j + length (until p (drop j xs))
-  unfolding until
-  until-next h e n t = rw (t, add-one) (omega (arith, rw (drop-cons xs i 0, ← e, n) at here))
+module _ (p : ℕ → Bool) (xs : List ℕ) (from i : ℕ) (here : from + length (stretch p (drop from xs)) ≡ i + length (stretch p (drop i xs))) where
+  pub stretch-next : {r : Bool} {j : ℕ} → i < length xs → r ≡ p (getD xs i 0) → r ≡ false → j ≡ i + 1
+      → from + length (stretch p (drop from xs)) ≡ j + length (stretch p (drop j xs))
+  unfolding stretch
+  stretch-next h e n t = rw (t, add-one) (omega (arith, rw (drop-cons xs i 0, ← e, n) at here))
 
-  pub until-found : {r : Bool} → i < length xs → r ≡ p (getD xs i 0) → r ≡ true → i ≡ from + length (until p (drop from xs))
-  unfolding until
-  until-found h e y = omega (arith, rw (drop-cons xs i 0, ← e, y) at here)
+  pub stretch-found : {r : Bool} → i < length xs → r ≡ p (getD xs i 0) → r ≡ true → i ≡ from + length (stretch p (drop from xs))
+  unfolding stretch
+  stretch-found h e y = omega (arith, rw (drop-cons xs i 0, ← e, y) at here)
 
-  pub until-end : length xs ≤ i → i ≡ from + length (until p (drop from xs))
-  unfolding until
-  until-end h = omega (arith, rw (drop-of-length-le xs h) at here)
-
-pub ruleset untils = (until-next, until-found, until-end)
+  pub stretch-end : length xs ≤ i → i ≡ from + length (stretch p (drop from xs))
+  unfolding stretch
+  stretch-end h = omega (arith, rw (drop-of-length-le xs h) at here)
 
 -- they are the front of the text
-pub take-until : (p : ℕ → Bool) (l : List ℕ) → take (length (until p l)) l ≡ until p l
-unfolding until
-take-until p [] = refl
-take-until p (x ∷ l) = by-test (p x) (λ t. rw t) (λ t. rw t (ap (λ (k : List ℕ). x ∷ k) (take-until p l)))
+pub take-stretch : (p : ℕ → Bool) (l : List ℕ) → take (length (stretch p l)) l ≡ stretch p l
+unfolding stretch
+take-stretch p [] = refl
+take-stretch p (x ∷ l) = by-test (p x) (λ t. rw t) (λ t. rw t (ap (λ (k : List ℕ). x ∷ k) (take-stretch p l)))
 
 -- ---- a part moved to the start: what is still to be moved is as it was
 

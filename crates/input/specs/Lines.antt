@@ -8,7 +8,7 @@ use lib.ListN.{length, drop}
 use Rattle.laws.specs.Pick.{pick, both, either}
 use Rattle.laws.specs.Put.{put}
 use Rattle.laws.specs.Tests.{every}
-use Rattle.input.specs.Text.{until, upTo}
+use Rattle.input.specs.Text.{stretch, upTo}
 use Rattle.input.specs.declared.hex.Fault.{Fault}
 use Rattle.input.specs.declared.hex.Fault.the-variants.{Digit, Odd, NoNumber, OverLimit, TooLong}
 use Rattle.input.specs.declared.hex.Line.{Line}
@@ -77,7 +77,7 @@ bytesIn limit most n (high ∷ low ∷ text) =
 -- behind an `@`: the limit up to the next blank, and then the bytes
 unfoldable pub limitedBy : (most : ℕ) → List ℕ → Parsed
 limitedBy most text =
-    let word = until isBlank text in
+    let word = stretch isBlank text in
     pick (isNumber word)
     (pick (ltb 65535 (number 0 word)) (ends (Wrong OverLimit)) (bytesIn (number 0 word) most 0 (drop (length word) text)))
     (ends (Wrong NoNumber))

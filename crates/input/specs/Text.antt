@@ -9,13 +9,13 @@ use Rattle.laws.specs.Pick.{pick}
 use Rattle.laws.specs.Put.{put}
 
 -- the bytes before the first that passes a test, all where none does
-unfoldable pub until : (ℕ → Bool) → List ℕ → List ℕ
-until p [] = []
-until p (x ∷ l) = pick (p x) [] (x ∷ until p l)
+unfoldable pub stretch : (ℕ → Bool) → List ℕ → List ℕ
+stretch p [] = []
+stretch p (x ∷ l) = pick (p x) [] (x ∷ stretch p l)
 
 -- the bytes before the first c, all where there is none
 abbrev pub upTo : ℕ → List ℕ → List ℕ
-upTo c l = until (λ x. eqb x c) l
+upTo c l = stretch (λ x. eqb x c) l
 
 -- where the text ends after n bytes came behind the `at` that were there: where none came, one more than `at` for the
 -- newline that ends the unfinished line, and 0 where there is no such line

@@ -2,7 +2,7 @@
 ghost use mathlib.Core.Path.{_≡_};
 ghost use Prim.Native.Nat.{_+_, _≤_};
 ghost use lib.ListN.{length, drop};
-ghost use Rattle.input.specs.Text.{until};
+ghost use Rattle.input.specs.Text.{stretch};
 ghost use Rattle.input.specs.Lines.{isBlank, isDecimal, digitOf, isNumber, number, byteOf, faultOf, bytesIn, limitedBy, askedBy, parsed};
 ghost use Rattle.input.specs.Lines.{isStop, tenfoldOf, Capped, Reads};
 
@@ -58,7 +58,7 @@ fn is_stop(c: u8, at_blank: bool) -> bool
 /// The next blank, or the next character that is none; else the text's end.
 fn scan(text: &[u8], at: usize, at_blank: bool) -> usize
     requires { ⌜ at ≤ length (now text) ⌝ }
-    ensures { λ r. ⌜ (at ≤ r) × (r ≤ length (now (text .entry))) × (r ≡ at + length (until (isStop «at_blank») (drop at (now (text .entry))))) ⌝ }
+    ensures { λ r. ⌜ (at ≤ r) × (r ≤ length (now (text .entry))) × (r ≡ at + length (stretch (isStop «at_blank») (drop at (now (text .entry))))) ⌝ }
 {
     let mut i = at;
     while i < text.len() {

@@ -1,6 +1,6 @@
 -- No character from the start up to i is the one that is looked for.
 use borrow.Author.Tests.{eq-eqb, ne-eqb}
-use Rattle.input.proofs.Text.{until-next, until-found, until-end}
+use Rattle.input.proofs.Text.{stretch-next, stretch-found, stretch-end}
 use Prim.Native.Nat.{_≤_, _-_, _+_}
 use mathlib.Core.Path.{_≡_, refl}
 use lib.ListN.{length, drop}
@@ -18,18 +18,18 @@ abbrev μ-loop : tie.MeasureT-loop
 returns : tie.Need-returns Inv-loop μ-loop
 returns c =
     let loop = c .before .before .before .loop in
-    (search needs, search needs, until-found _ _ _ _ (loop .inv .2) (search needs) refl (eq-eqb _ _ (c .if1 .taken)))
+    (search needs, search needs, stretch-found _ _ _ _ (loop .inv .2) (search needs) refl (eq-eqb _ _ (c .if1 .taken)))
 
 loop-again : tie.Need-loop-again Inv-loop μ-loop
 loop-again c =
     let loop = c .before .before .before .loop in (
       search needs,
       search needs,
-      until-next _ _ _ _ (loop .inv .2) (search needs) refl (ne-eqb _ _ (c .if1 .left)) refl,
+      stretch-next _ _ _ _ (loop .inv .2) (search needs) refl (ne-eqb _ _ (c .if1 .left)) refl,
     )
 
 returns-2 : tie.Need-returns-2 Inv-loop μ-loop
-returns-2 c = (search needs, search needs, until-end _ _ _ _ (c .before .loop .inv .2) (search needs))
+returns-2 c = (search needs, search needs, stretch-end _ _ _ _ (c .before .loop .inv .2) (search needs))
 
 pub find-spec : {M : Type 1} → statement M
 find-spec =

@@ -1,7 +1,7 @@
 -- What was measured decides, as in the definition; the last page stays in the buffer.
 use mathlib.Core.Path.{refl}
 use native.Mathlib.Omega.{arith}
-use Rattle.pallet.proofs.Paging.{turn-askable, few-numbers, some-tables}
+use Rattle.pallet.proofs.Paging.{few-numbers, some-tables}
 use Rattle.pallet.proofs.Outcomes.{list-tiny, list-narrow, list-total, list-short, list-joined}
 use borrow.Author.Needs.{needs}
 use Rattle.pallet.proofs.lists.list_granted.Statement.{statement}
