@@ -22,7 +22,7 @@ use Rattle.input.specs.declared.hex.Fault.the-variants.{TooLong, NoNumbe
 use Rattle.input.specs.declared.hex.Line.{Line}
 use Rattle.input.specs.declared.hex.Line.the-variants.{Empty, Request, Wrong}
 use Rattle.input.specs.Lines.{Parsed, ends, behind, isBlank, between, digitOf, isNumber, number, byteOf, faultOf, bytesIn, limitedBy, askedBy, parsed}
-use Rattle.input.specs.Lines.{Reads, isStop, Capped, tenfoldOf, Usable}
+use Rattle.input.specs.Lines.{Reads, isStop, Capped, tenfoldOf}
 
 -- ---- characters
 
@@ -330,15 +330,7 @@ pub kept : (most : ℕ) (line : List ℕ) → Kept most 0 (parsed most line .ask
 unfolding parsed
 kept most line = kept-asked most (upTo 0x23 line)
 
-kept-usable : (most : ℕ) (x : Line) (bytes : List ℕ) → Kept most 0 x bytes → Usable most x
-kept-usable most Empty bytes k = tt
-kept-usable most (Wrong f) bytes k = tt
-kept-usable most (Request limit n) bytes k = (k .0, k .1)
-
-pub usable : (most : ℕ) (line : List ℕ) → Usable most (parsed most line .asks)
-usable most line = kept-usable most (parsed most line .asks) (parsed most line .bytes) (kept most line)
-
--- the same from what `parse` ensures, of a line that asks a request
+-- what `parse` ensures of a line that asks a request: limit and bytes are those that the controller takes
 pub request-is : {limit n : ℕ} {old new : List ℕ} (line : List ℕ) (x : Line) → x ≡ Request limit n → Reads (parsed (length old) line) old x new
     → (limit ≤ 65535) × (n ≤ length old) × (n ≡ length (parsed (length old) line .bytes))
 request-is {old = old} line x e r =

@@ -112,9 +112,3 @@ pub record Capped (exact r : ℕ) : Type 0 where
 -- one digit more
 abbrev pub tenfoldOf : ℕ → ℕ → ℕ
 tenfoldOf n c = pick (ltb 6553 n) 65536 (10 * n + digitOf c)
-
--- a request's bytes lie in a buffer of so many
-abbrev pub Usable : (most : ℕ) → Line → Type 0
-Usable most Empty = Unit {0}
-Usable most (Wrong f) = Unit {0}
-Usable most (Request limit n) = (limit ≤ 65535) × (n ≤ most)
