@@ -1,6 +1,24 @@
 -- The head of a table image: its counts and the bytes of the whole image.
-use Prim.Native.Nat.{ℕ, _+_, _*_, _≤_}
+use mathlib.Core.Path.{_≡_}
+use mathlib.Core.List.{List}
+use Prim.Native.Nat.{ℕ, _+_, _*_, _/_, _%_, _≤_}
+use lib.Dec.{eqb}
+use Rattle.definition.specs.Bytes.{u32At}
+use Rattle.model.specs.declared.Flags.{Flags}
 use Rattle.simulator.specs.declared.image.Head.{Head}
+
+-- ten words behind the magic: the flags, then the counts
+abbrev pub HeadIn : (image : List ℕ) → Head → Type 0
+HeadIn image h =
+    (h .flags ≡ u32At image 8) × (h .structures ≡ u32At image 12) × (h .members ≡ u32At image 16) × (h .programs ≡ u32At image 20)
+    × (h .tags ≡ u32At image 24) × (h .others ≡ u32At image 28) × (h .names ≡ u32At image 32) × (h .«tag_names» ≡ u32At image 36)
+    × (h .templates ≡ u32At image 40) × (h .memory ≡ u32At image 44)
+
+-- the flags by their bits
+abbrev pub FlagsIn : (word : ℕ) → Flags → Type 0
+FlagsIn word f =
+    (f .«multi_service» ≡ eqb (word % 2) 1) × (f .«instance_ids» ≡ eqb (word / 2 % 2) 1)
+    × (f .«aoi_locals_refused» ≡ eqb (word / 4 % 2) 1) × (f .micro800 ≡ eqb (word / 8 % 2) 1)
 
 -- no count above what T1 allows
 abbrev pub Few : Head → Type 0

@@ -1,9 +1,11 @@
 // A table image (IMAGE.md): a head with the counts, the rows, the stores and the tag memory.
 ghost use mathlib.Core.Path.{_≡_};
 ghost use mathlib.Core.Bool.{true, false};
-ghost use Prim.Native.Nat.{_+_, _≤_};
+ghost use Prim.Native.Nat.{_+_, _%_, _≤_};
+ghost use lib.Dec.{eqb};
 ghost use lib.ListN.{length};
-ghost use Rattle.simulator.specs.Images.{Few, rowsSize, storesSize, imageSize};
+ghost use Rattle.definition.specs.Bytes.{u32At};
+ghost use Rattle.simulator.specs.Images.{HeadIn, FlagsIn, Few, rowsSize, storesSize, imageSize};
 use crate::say;
 use crate::session;
 use input::image_rows;
@@ -41,12 +43,14 @@ fn has_magic(image: &[u8]) -> bool {
 
 fn count(image: &[u8], at: usize) -> usize
     requires { ⌜ at + 4 ≤ length (now image) ⌝ }
+    ensures { λ r. ⌜ r ≡ u32At (now (image .entry)) at ⌝ }
 {
     cip::u32_at(image, at) as usize
 }
 
 fn read_head(image: &[u8]) -> Head
     requires { ⌜ 48 ≤ length (now image) ⌝ }
+    ensures { λ r. ⌜ HeadIn (now (image .entry)) r ⌝ }
 {
     Head {
         flags: cip::u32_at(image, 8),
@@ -125,11 +129,15 @@ fn size(h: Head) -> usize
     rows_size(h) + h.names + h.tag_names + h.templates + h.memory
 }
 
-fn is_odd(word: u32) -> bool {
+fn is_odd(word: u32) -> bool
+    ensures { λ r. ⌜ r ≡ eqb (word % 2) 1 ⌝ }
+{
     word % 2 == 1
 }
 
-fn flags_of(word: u32) -> Flags {
+fn flags_of(word: u32) -> Flags
+    ensures { λ r. ⌜ FlagsIn word r ⌝ }
+{
     Flags {
         multi_service: is_odd(word),
         instance_ids: is_odd(word / 2),
