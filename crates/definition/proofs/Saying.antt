@@ -15,7 +15,8 @@ use Rattle.laws.specs.Pick.{pick, both}
 use Rattle.laws.specs.Sorted.{All}
 use Rattle.laws.proofs.Chain.{by-test, clash}
 use Rattle.laws.proofs.First.{First, first-some}
-use Rattle.laws.proofs.Tests.{both-true, both-fails, either-fails, every-fails, All-at, All-parts, passing, until, All-passing, passing-at, All-until}
+use Rattle.laws.specs.Tests.{stretch}
+use Rattle.laws.proofs.Tests.{both-true, both-fails, either-fails, every-fails, All-at, All-parts, passing, All-passing, passing-at, All-stretch}
 use Rattle.definition.specs.Tables.{Tables, Row, tagScope, tagId, tagType, tagOffset}
 use Rattle.definition.specs.Types.{isStructure}
 use Rattle.definition.specs.Valid.{isType, tagNamesDiffer, otherNamesDiffer, programNamesDiffer, idsDiffer, endIn, apart}
@@ -167,14 +168,14 @@ module _ (t : Tables) (memory : ℕ) (b : Breach) (e : breach t memory ≡ some 
 
   -- ---- the tests before the one that is broken hold
 
-  passed : {k : ℕ} (m : ℕ) → b .rule ≡ k → All Holds (passing (isRule m) (until (isRule k) (tests t memory)))
+  passed : {k : ℕ} (m : ℕ) → b .rule ≡ k → All Holds (passing (isRule m) (stretch (isRule k) (tests t memory)))
   passed {k} m q =
-      All-passing (isRule m) Holds (until (isRule k) (tests t memory))
-      (All-until (isRule k) Holds noTest (tests t memory) (first .number) (its-rule q) (λ n h. holds (testAt t memory n) (first .before n (omega arith) h)))
+      All-passing (isRule m) Holds (stretch (isRule k) (tests t memory))
+      (All-stretch (isRule k) Holds noTest (tests t memory) (first .number) (its-rule q) (λ n h. holds (testAt t memory n) (first .before n (omega arith) h)))
 
   -- where the last test is reached, each tag has bytes: T4's sizes, T5's types and T5's element counts were looked at
   has-bytes : b .rule ≡ 602 → (j : ℕ) → j < length (t .tags) → tagOffset (rowAt (t .tags) j) < endIn (t .structures) (rowAt (t .tags) j)
-  unfolding tests counts structureRules memberRules programRules tagRules otherRules clashes hasElements
+  unfolding tests counts structureRules memberRules programRules tagRules otherRules clashes hasElements stretch
   has-bytes q j h =
       let r = rowAt (t .tags) j in
       let some-elements = elements-some r (passed 503 q .0 0 j (omega arith)) .0 in

@@ -15,7 +15,8 @@ use Rattle.laws.proofs.Chain.{either-no, both-off, both-off-2, by-test, pick-al
 use Rattle.laws.proofs.Tests.{pick-by}
 use Rattle.laws.specs.Put.{put}
 use Rattle.laws.proofs.Put.{put-none}
-use Rattle.input.specs.Text.{stretch, upTo}
+use Rattle.input.specs.Text.{upTo}
+use Rattle.laws.specs.Tests.{stretch}
 use Rattle.input.proofs.Text.{take-stretch}
 use Rattle.input.specs.declared.hex.Fault.{Fault}
 use Rattle.input.specs.declared.hex.Fault.the-variants.{TooLong, NoNumber, OverLimit}

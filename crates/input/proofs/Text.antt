@@ -15,7 +15,8 @@ use lib.Seq.{take-at, getD-set-same, drop-cons, getD-drop, length-take-le, drop-
 use Rattle.laws.specs.Put.{put}
 use Rattle.laws.proofs.Chain.{by-test, pick-all}
 use Rattle.laws.proofs.Put.{set-put}
-use Rattle.input.specs.Text.{stretch, endAfter, leftAfter, More}
+use Rattle.input.specs.Text.{endAfter, leftAfter, More}
+use Rattle.laws.specs.Tests.{stretch}
 
 pub stretch-short : (p : ℕ → Bool) (l : List ℕ) → length (stretch p l) ≤ length l
 unfolding stretch

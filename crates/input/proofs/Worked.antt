@@ -1,8 +1,7 @@
 -- Lines as the definition reads them, computed.
 use mathlib.Core.Path.{_≡_, refl}
 use mathlib.Core.List.{[], _∷_}
-use Rattle.laws.specs.Tests.{every}
-use Rattle.input.specs.Text.{stretch}
+use Rattle.laws.specs.Tests.{every, stretch}
 use Rattle.input.specs.Lines.{digitOf, isNumber, number, byteOf, bytesIn, limitedBy, askedBy, parsed}
 use Rattle.input.specs.declared.hex.Fault.the-variants.{Odd}
 use Rattle.input.specs.declared.hex.Line.the-variants.{Request, Wrong, Empty}

@@ -7,8 +7,8 @@ use lib.Dec.{ltb, leb, eqb}
 use lib.ListN.{length, drop}
 use Rattle.laws.specs.Pick.{pick, both, either}
 use Rattle.laws.specs.Put.{put}
-use Rattle.laws.specs.Tests.{every}
-use Rattle.input.specs.Text.{stretch, upTo}
+use Rattle.laws.specs.Tests.{every, stretch}
+use Rattle.input.specs.Text.{upTo}
 use Rattle.input.specs.declared.hex.Fault.{Fault}
 use Rattle.input.specs.declared.hex.Fault.the-variants.{Digit, Odd, NoNumber, OverLimit, TooLong}
 use Rattle.input.specs.declared.hex.Line.{Line}

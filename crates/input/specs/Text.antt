@@ -1,17 +1,12 @@
 -- Text cut at a character, and the end of what has come of it.
 use mathlib.Core.Path.{_≡_}
-use mathlib.Core.Bool.{Bool}
 use mathlib.Core.List.{List, [], _∷_}
 use Prim.Native.Nat.{ℕ, _+_, _<_, _≤_}
 use lib.Dec.{ltb, eqb}
 use lib.ListN.{length, take, getD}
 use Rattle.laws.specs.Pick.{pick}
 use Rattle.laws.specs.Put.{put}
-
--- the bytes before the first that passes a test, all where none does
-unfoldable pub stretch : (ℕ → Bool) → List ℕ → List ℕ
-stretch p [] = []
-stretch p (x ∷ l) = pick (p x) [] (x ∷ stretch p l)
+use Rattle.laws.specs.Tests.{stretch}
 
 -- the bytes before the first c, all where there is none
 abbrev pub upTo : ℕ → List ℕ → List ℕ

@@ -2,7 +2,7 @@
 ghost use mathlib.Core.Path.{_≡_};
 ghost use Prim.Native.Nat.{_+_, _≤_};
 ghost use lib.ListN.{length, drop};
-ghost use Rattle.input.specs.Text.{stretch};
+ghost use Rattle.laws.specs.Tests.{stretch};
 ghost use Rattle.input.specs.Lines.{isBlank, isDecimal, digitOf, isNumber, number, byteOf, faultOf, bytesIn, limitedBy, askedBy, parsed};
 ghost use Rattle.input.specs.Lines.{isStop, tenfoldOf, Capped, Reads};
 

@@ -12,7 +12,7 @@ use lib.Seq.{getD-take, getD-drop}
 use Rattle.laws.specs.Pick.{pick, both, either, isEmpty}
 use Rattle.laws.specs.Scan.{scan}
 use Rattle.laws.specs.Sorted.{All, Distinct}
-use Rattle.laws.specs.Tests.{every, everyFrom, pairs}
+use Rattle.laws.specs.Tests.{every, everyFrom, pairs, stretch}
 use Rattle.laws.proofs.Chain.{pick-all, both-on, both-off-2, by-test, clash}
 
 pub both-true : (t u : Bool) → both t u ≡ true → (t ≡ true) × (u ≡ true)
@@ -109,10 +109,6 @@ module _ {A : Type 0} (p : A → Bool) where
   passing [] = []
   passing (x ∷ xs) = pick (p x) (x ∷ passing xs) (passing xs)
 
-  abbrev pub until : List A → List A
-  until [] = []
-  until (x ∷ xs) = pick (p x) [] (x ∷ until xs)
-
   module _ (P : A → Type 0) where
     pub All-passing : (xs : List A) → All P xs → All P (passing xs)
     All-passing [] a = tt
@@ -124,11 +120,12 @@ module _ {A : Type 0} (p : A → Bool) where
     passing-at d (x ∷ xs) (suc n) a h e =
         by-test (p x) (λ t. passing-at d xs n ((rw t at a) .1) (omega arith) e) (λ t. passing-at d xs n (rw t at a) (omega arith) e)
 
-    pub All-until : (d : A) (xs : List A) (n : ℕ) → p (getD xs n d) ≡ true → ((k : ℕ) → k < n → P (getD xs k d)) → All P (until xs)
-    All-until d [] n e f = tt
-    All-until d (x ∷ xs) zero e f = rw e tt
-    All-until d (x ∷ xs) (suc n) e f =
-        pick-all (All P) (p x) tt (f zero (omega arith), All-until d xs n e (λ k h. f (suc k) (omega arith)))
+    pub All-stretch : (d : A) (xs : List A) (n : ℕ) → p (getD xs n d) ≡ true → ((k : ℕ) → k < n → P (getD xs k d)) → All P (stretch p xs)
+    unfolding stretch
+    All-stretch d [] n e f = tt
+    All-stretch d (x ∷ xs) zero e f = rw e tt
+    All-stretch d (x ∷ xs) (suc n) e f =
+        pick-all (All P) (p x) tt (f zero (omega arith), All-stretch d xs n e (λ k h. f (suc k) (omega arith)))
 
 -- ---- a test of each element, and of each two, by their indexes
 

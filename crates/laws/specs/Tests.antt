@@ -1,8 +1,8 @@
--- A test of each element of a list, also with its index, of each two elements, and of some element.
+-- A test of each element of a list, also with its index, of each two elements, and of some element; and what stands before the first that passes one.
 use mathlib.Core.Bool.{Bool, true, false}
 use mathlib.Core.List.{List, [], _∷_}
 use Prim.Native.Nat.{ℕ, suc}
-use Rattle.laws.specs.Pick.{both, either}
+use Rattle.laws.specs.Pick.{pick, both, either}
 
 unfoldable pub every : {A : Type 0} → (A → Bool) → List A → Bool
 every p [] = true
@@ -21,3 +21,8 @@ some-of p (x ∷ xs) = either (p x) (some-of p xs)
 unfoldable pub pairs : {A : Type 0} → (A → A → Bool) → List A → Bool
 pairs p [] = true
 pairs p (x ∷ xs) = both (every (p x) xs) (pairs p xs)
+
+-- the elements before the first that passes the test, all where none does
+unfoldable pub stretch : {A : Type 0} → (A → Bool) → List A → List A
+stretch p [] = []
+stretch p (x ∷ xs) = pick (p x) [] (x ∷ stretch p xs)

@@ -2,7 +2,7 @@
 use Prim.Native.Nat.{_≤_, _-_, _+_}
 use mathlib.Core.Path.{_≡_, refl}
 use lib.ListN.{length, drop}
-use Rattle.input.specs.Text.{stretch}
+use Rattle.laws.specs.Tests.{stretch}
 use Rattle.input.specs.Lines.{isStop}
 use Rattle.input.proofs.Text.{stretch-next, stretch-found, stretch-end}
 use borrow.Author.Needs.{needs}
