@@ -7,7 +7,9 @@ use mathlib.Core.Path.{refl, sym, _∙_}
 use native.Mathlib.Omega.{arith}
 use native.Mathlib.Nat.{le-antisymm}
 use borrow.Author.Tests.{not-false}
-use Rattle.logix.proofs.Dispatching.{path-fits, segments-there, body-shorter, answer-malformed, answer-envelope, answer-plain, part-in-place, part-some, part-fits, part-by-scratch, tail-room, part-declined, envelope-off, envelope-short, envelope-runs}
+use Rattle.logix.proofs.Dispatching.{path-fits, segments-there, body-shorter, answer-malformed, answer-envelope}
+use Rattle.logix.proofs.Dispatching.{answer-plain, part-in-place, part-some, part-fits, part-by-scratch}
+use Rattle.logix.proofs.Dispatching.{tail-room, part-declined, envelope-off, envelope-short, envelope-runs}
 use borrow.Author.Needs.{needs}
 use Prim.Native.Nat.{ℕ, _+_, _-_, _*_, _<_}
 use lib.ListN.{length}
@@ -83,100 +85,296 @@ abbrev part-below : ℕ → In 11 part-kinds.ps
 part-below t = and 11 part-kinds.ps (falls 11 part-kinds.ps _<_ μ-part t) part.Pre
 
 abbrev dispatch-calls : ℕ → dispatch-lts.Claims
-dispatch-calls t = (split-request-reads.Asked, split-request-reads.Learnt, first-of-reads.Asked, first-of-reads.Learnt, fail-reads.Asked, fail-reads.Learnt, path-of-reads.Asked, path-of-reads.Learnt, data-of-reads.Asked, data-of-reads.Learnt, is-envelope-reads.Asked, is-envelope-reads.Learnt, multi-service-below t, multi-service.Post, plain-reads.Asked, plain-reads.Learnt)
+dispatch-calls t = (
+  split-request-reads.Asked,
+  split-request-reads.Learnt,
+  first-of-reads.Asked,
+  first-of-reads.Learnt,
+  fail-reads.Asked,
+  fail-reads.Learnt,
+  path-of-reads.Asked,
+  path-of-reads.Learnt,
+  data-of-reads.Asked,
+  data-of-reads.Learnt,
+  is-envelope-reads.Asked,
+  is-envelope-reads.Learnt,
+  multi-service-below t,
+  multi-service.Post,
+  plain-reads.Asked,
+  plain-reads.Learnt,
+)
 
 abbrev multi-service-calls : ℕ → multi-service-lts.Claims
-multi-service-calls t = (takes-envelopes-reads.Asked, takes-envelopes-reads.Learnt, fail-reads.Asked, fail-reads.Learnt, has-parts-reads.Asked, has-parts-reads.Learnt, count-of-reads.Asked, count-of-reads.Learnt, put-offset-reads.Asked, put-offset-reads.Learnt, part-of-reads.Asked, part-of-reads.Learnt, budget-of-reads.Asked, budget-of-reads.Learnt, part-below t, part.Post, also-reads.Asked, also-reads.Learnt, close-reads.Asked, close-reads.Learnt)
+multi-service-calls t = (
+  takes-envelopes-reads.Asked,
+  takes-envelopes-reads.Learnt,
+  fail-reads.Asked,
+  fail-reads.Learnt,
+  has-parts-reads.Asked,
+  has-parts-reads.Learnt,
+  count-of-reads.Asked,
+  count-of-reads.Learnt,
+  put-offset-reads.Asked,
+  put-offset-reads.Learnt,
+  part-of-reads.Asked,
+  part-of-reads.Learnt,
+  budget-of-reads.Asked,
+  budget-of-reads.Learnt,
+  part-below t,
+  part.Post,
+  also-reads.Asked,
+  also-reads.Learnt,
+  close-reads.Asked,
+  close-reads.Learnt,
+)
 
 abbrev part-calls : ℕ → part-lts.Claims
-part-calls t = (first-of-reads.Asked, first-of-reads.Learnt, refuse-part-reads.Asked, refuse-part-reads.Learnt, dispatch-below t, dispatch.Post, place-reads.Asked, place-reads.Learnt)
+part-calls t = (
+  first-of-reads.Asked,
+  first-of-reads.Learnt,
+  refuse-part-reads.Asked,
+  refuse-part-reads.Learnt,
+  dispatch-below t,
+  dispatch.Post,
+  place-reads.Asked,
+  place-reads.Learnt,
+)
 
 dispatch-returns : (t : ℕ) → dispatch-lts.Need-returns (dispatch-calls t) (dispatch-at t) dispatch.Post
-dispatch-returns t c = answer-malformed _ _ _ _ _ _ _ _ _ _ _ (c .before .before .before .before .before .before .before .split-request .ensures) (c .before .before .before .before .before .enum-told .given .1) (c .before .before .before .first-of .ensures) (c .before .before .fail .ensures) refl
+dispatch-returns t c =
+    let back = c .before .before .before in let first-of = back .first-of in
+    let enum-told = back .before .before .enum-told in
+    let split-request = back .before .before .before .before .split-request in
+    answer-malformed _ _ _ _ _ _ _ _ _ _ _ (split-request .ensures) (enum-told .given .1) (first-of .ensures)
+    (c .before .before .fail .ensures) refl
 
 dispatch-path-of-requires : (t : ℕ) → dispatch-lts.Need-path-of-requires (dispatch-calls t) (dispatch-at t) dispatch.Post
-dispatch-path-of-requires t c κs = path-fits _ _ _ (c .before .before .before .before .split-request .ensures) (c .before .before .size .given .1)
+dispatch-path-of-requires t c κs =
+    let split-request = c .before .before .before .before .split-request in
+    path-fits _ _ _ (split-request .ensures) (c .before .before .size .given .1)
 
 dispatch-data-of-requires : (t : ℕ) → dispatch-lts.Need-data-of-requires (dispatch-calls t) (dispatch-at t) dispatch.Post
-dispatch-data-of-requires t c κs = path-fits _ _ _ (c .before .before .before .before .before .split-request .ensures) (c .before .before .before .size .given .1)
+dispatch-data-of-requires t c κs =
+    let size = c .before .before .before .size in
+    let split-request = c .before .before .before .before .before .split-request in
+    path-fits _ _ _ (split-request .ensures) (size .given .1)
 
 dispatch-is-envelope-requires : (t : ℕ) → dispatch-lts.Need-is-envelope-requires (dispatch-calls t) (dispatch-at t) dispatch.Post
-dispatch-is-envelope-requires t c κs = segments-there _ _ _ _ (c .before .before .before .before .before .before .split-request .ensures) (c .before .before .before .before .size .given .1) (c .before .path-of .ensures)
+dispatch-is-envelope-requires t c κs =
+    let back = c .before .before .before .before in let size = back .size in
+    let split-request = back .before .before .split-request in
+    segments-there _ _ _ _ (split-request .ensures) (size .given .1) (c .before .path-of .ensures)
 
 dispatch-multi-service-requires : (t : ℕ) → dispatch-lts.Need-multi-service-requires (dispatch-calls t) (dispatch-at t) dispatch.Post
-dispatch-multi-service-requires t c κs = (omega (arith, body-shorter _ _ _ _ (c .before .before .before .before .before .before .before .before .before .before .split-request .ensures) (c .before .before .before .before .before .before .before .before .size .given .1) (c .before .before .before .before .data-of .ensures)), search needs)
+dispatch-multi-service-requires t c κs =
+    let data-of = c .before .before .before .before .data-of in
+    let size = c .before .before .before .before .before .before .before .before .size in
+    let split-request = c .before .before .before .before .before .before .before .before .before .before .split-request in
+    (omega (arith, body-shorter _ _ _ _ (split-request .ensures) (size .given .1) (data-of .ensures)), search needs)
 
 dispatch-returns-2 : (t : ℕ) → dispatch-lts.Need-returns-2 (dispatch-calls t) (dispatch-at t) dispatch.Post
-dispatch-returns-2 t c = answer-envelope _ _ _ _ _ _ _ _ _ _ _ _ _ _ (c .before .before .before .before .before .before .before .before .before .before .before .before .before .before .before .split-request .ensures) (c .before .before .before .before .before .before .before .before .before .before .before .before .before .size .given .1) (c .before .before .before .before .before .before .before .before .before .before .before .first-of2 .ensures) (c .before .before .before .before .before .before .before .before .before .before .path-of .ensures) (c .before .before .before .before .before .before .before .before .before .data-of .ensures) _ (c .before .before .before .before .before .before .before .before .is-envelope .ensures) (c .before .before .before .before .before .before .before .if1 .taken) (c .before .before .before .before .multi-service .ensures)
+dispatch-returns-2 t c =
+    let back = c .before .before .before .before in let multi-service = back .multi-service in
+    let back = back .before .before .before in let if1 = back .if1 in
+    let back = back .before in let is-envelope = back .is-envelope in
+    let back = back .before in let data-of = back .data-of in
+    let path-of = back .before .path-of in
+    let back = back .before .before in let first-of2 = back .first-of2 in
+    let size = back .before .before .size in
+    let split-request = back .before .before .before .before .split-request in
+    answer-envelope _ _ _ _ _ _ _ _ _ _ _ _ _ _ (split-request .ensures) (size .given .1) (first-of2 .ensures)
+    (path-of .ensures) (data-of .ensures) _ (is-envelope .ensures) (if1 .taken) (multi-service .ensures)
 
 dispatch-plain-requires : (t : ℕ) → dispatch-lts.Need-plain-requires (dispatch-calls t) (dispatch-at t) dispatch.Post
-dispatch-plain-requires t c κs = (segments-there _ _ _ _ (c .before .before .before .before .before .before .before .before .before .before .split-request .ensures) (c .before .before .before .before .before .before .before .before .size .given .1) (c .before .before .before .before .before .path-of .ensures), search needs, search needs)
+dispatch-plain-requires t c κs = (
+  let back = c .before .before .before .before .before in let path-of = back .path-of in
+      let size = back .before .before .before .size in
+      let split-request = back .before .before .before .before .before .split-request in
+      segments-there _ _ _ _ (split-request .ensures) (size .given .1) (path-of .ensures),
+  search needs,
+  search needs,
+)
 
 dispatch-returns-3 : (t : ℕ) → dispatch-lts.Need-returns-3 (dispatch-calls t) (dispatch-at t) dispatch.Post
-dispatch-returns-3 t c = answer-plain _ _ _ _ _ _ _ _ _ _ _ _ _ _ (c .before .before .before .before .before .before .before .before .before .before .before .before .before .before .before .split-request .ensures) (c .before .before .before .before .before .before .before .before .before .before .before .before .before .size .given .1) (c .before .before .before .before .before .before .before .before .before .before .before .first-of2 .ensures) (c .before .before .before .before .before .before .before .before .before .before .path-of .ensures) (c .before .before .before .before .before .before .before .before .before .data-of .ensures) _ (c .before .before .before .before .before .before .before .before .is-envelope .ensures) (c .before .before .before .before .before .before .before .if1 .left) (c .before .before .before .before .plain .ensures)
+dispatch-returns-3 t c =
+    let back = c .before .before .before .before in let plain = back .plain in
+    let back = back .before .before .before in let if1 = back .if1 in
+    let back = back .before in let is-envelope = back .is-envelope in
+    let back = back .before in let data-of = back .data-of in
+    let path-of = back .before .path-of in
+    let back = back .before .before in let first-of2 = back .first-of2 in
+    let size = back .before .before .size in
+    let split-request = back .before .before .before .before .split-request in
+    answer-plain _ _ _ _ _ _ _ _ _ _ _ _ _ _ (split-request .ensures) (size .given .1) (first-of2 .ensures)
+    (path-of .ensures) (data-of .ensures) _ (is-envelope .ensures) (if1 .left) (plain .ensures)
 
 abbrev multi-service-Inv-loop : multi-service-lts.InvT-loop
-multi-service-Inv-loop structures members programs tags others names tag-names templates flags memory₀ body limit buf₀ count used₀ fine₀ i₀ memory buf used fine i =
-    Going (partDispatch (tablesOf structures members programs tags others names tag-names templates) (flagsOf flags)) memory₀ body limit buf₀ count memory buf used fine i
+multi-service-Inv-loop structures members programs tags others names texts templates flags memory₀ body limit buf₀ count used₀ fine₀ i₀ memory buf used fine i =
+    Going (partDispatch (tablesOf structures members programs tags others names texts templates) (flagsOf flags))
+    memory₀ body limit buf₀ count memory buf used fine i
 
 abbrev multi-service-μ-loop : multi-service-lts.MeasureT-loop
-multi-service-μ-loop structures members programs tags others names tag-names templates flags memory₀ body limit buf₀ count used₀ fine₀ i₀ memory buf used fine i =
+multi-service-μ-loop structures members programs tags others names texts templates flags memory₀ body limit buf₀ count used₀ fine₀ i₀ memory buf used fine i =
     count - i
 
-multi-service-returns : (t : ℕ) → multi-service-lts.Need-returns (multi-service-calls t) (multi-service-at t) multi-service.Post multi-service-Inv-loop multi-service-μ-loop
-multi-service-returns t c = envelope-off _ _ _ _ _ _ _ _ _ _ (c .before .before .before .before .before .takes-envelopes .ensures) (c .before .before .before .before .if1 .taken) (c .before .before .fail .ensures) refl
+multi-service-returns : (t : ℕ) → multi-service-lts.Need-returns (multi-service-calls t) (multi-service-at t)
+    multi-service.Post multi-service-Inv-loop multi-service-μ-loop
+multi-service-returns t c =
+    let back = c .before .before .before .before in let if1 = back .if1 in
+    let takes-envelopes = back .before .takes-envelopes in
+    envelope-off _ _ _ _ _ _ _ _ _ _ (takes-envelopes .ensures) (if1 .taken) (c .before .before .fail .ensures) refl
 
-multi-service-returns-2 : (t : ℕ) → multi-service-lts.Need-returns-2 (multi-service-calls t) (multi-service-at t) multi-service.Post multi-service-Inv-loop multi-service-μ-loop
-multi-service-returns-2 t c = envelope-short _ _ _ _ _ _ _ _ _ _ _ (c .before .before .before .before .before .before .before .takes-envelopes .ensures) (c .before .before .before .before .before .before .if1 .left) (c .before .before .before .before .before .has-parts .ensures) (c .before .before .before .before .if2 .taken) (c .before .before .fail2 .ensures) refl
+multi-service-returns-2 : (t : ℕ) → multi-service-lts.Need-returns-2 (multi-service-calls t) (multi-service-at t)
+    multi-service.Post multi-service-Inv-loop multi-service-μ-loop
+multi-service-returns-2 t c =
+    let back = c .before .before .before .before in let if2 = back .if2 in
+    let has-parts = back .before .has-parts in
+    let if1 = back .before .before .if1 in
+    let takes-envelopes = back .before .before .before .takes-envelopes in
+    envelope-short _ _ _ _ _ _ _ _ _ _ _ (takes-envelopes .ensures) (if1 .left) (has-parts .ensures) (if2 .taken)
+    (c .before .before .fail2 .ensures) refl
 
-multi-service-count-of-requires : (t : ℕ) → multi-service-lts.Need-count-of-requires (multi-service-calls t) (multi-service-at t) multi-service.Post multi-service-Inv-loop multi-service-μ-loop
-multi-service-count-of-requires t c κs = omega (arith, has-parts (c .before .before .before .before .before .before .before .before .before .before .args .body .now) _ (c .before .has-parts .ensures) (not-false _ (c .if2 .left)) .long)
+multi-service-count-of-requires : (t : ℕ) → multi-service-lts.Need-count-of-requires (multi-service-calls t)
+    (multi-service-at t) multi-service.Post multi-service-Inv-loop multi-service-μ-loop
+multi-service-count-of-requires t c κs =
+    let args = c .before .before .before .before .before .before .before .before .before .before .args in
+    omega (arith, has-parts (args .body .now) _ (c .before .has-parts .ensures) (not-false _ (c .if2 .left)) .long)
 
-multi-service-loop-holds : (t : ℕ) → multi-service-lts.Need-loop-holds (multi-service-calls t) (multi-service-at t) multi-service.Post multi-service-Inv-loop multi-service-μ-loop
+multi-service-loop-holds : (t : ℕ) → multi-service-lts.Need-loop-holds (multi-service-calls t) (multi-service-at t)
+    multi-service.Post multi-service-Inv-loop multi-service-μ-loop
 multi-service-loop-holds t c = going-start _ _ _ _ _ _ (c .count-of .ensures .1)
 
-multi-service-part-of-requires : (t : ℕ) → multi-service-lts.Need-part-of-requires (multi-service-calls t) (multi-service-at t) multi-service.Post multi-service-Inv-loop multi-service-μ-loop
-multi-service-part-of-requires t c κs = (sym (c .before .before .before .before .before .before .before .before .before .has-parts .ensures) ∙ not-false _ (c .before .before .before .before .before .before .before .before .if2 .left), c .before .before .before .before .before .before .before .count-of .ensures .0, c .before .before .before .before .before .loop-test .taken)
+multi-service-part-of-requires : (t : ℕ) → multi-service-lts.Need-part-of-requires (multi-service-calls t)
+    (multi-service-at t) multi-service.Post multi-service-Inv-loop multi-service-μ-loop
+multi-service-part-of-requires t c κs =
+    let back = c .before .before .before .before .before in let loop-test = back .loop-test in
+    let back = back .before .before in let count-of = back .count-of in
+    let if2 = back .before .if2 in
+    let has-parts = back .before .before .has-parts in
+    (sym (has-parts .ensures) ∙ not-false _ (if2 .left), count-of .ensures .0, loop-test .taken)
 
-multi-service-part-requires : (t : ℕ) → multi-service-lts.Need-part-requires (multi-service-calls t) (multi-service-at t) multi-service.Post multi-service-Inv-loop multi-service-μ-loop
-multi-service-part-requires t c κs = (omega (arith, c .before .before .part-of .ensures .shorter), (rw (c .before .before .before .before .before .before .before .before .before .loop .inv .wide) (c .before .before .before .before .before .before .before .before .before .before .before .before .before .before .before .before .before .before .before .before .before .pre .1 .0), c .before .before .before .before .before .before .before .before .before .before .before .before .before .before .before .before .before .before .before .before .before .pre .1 .1, omega (arith, c .before .budget-of .ensures), omega (arith, c .before .before .before .before .before .before .before .before .before .loop .inv .long, c .before .before .before .before .before .before .before .before .before .before .before .before .before .before .before .before .before .before .before .before .before .pre .1 .2)))
+multi-service-part-requires : (t : ℕ) → multi-service-lts.Need-part-requires (multi-service-calls t)
+    (multi-service-at t) multi-service.Post multi-service-Inv-loop multi-service-μ-loop
+multi-service-part-requires t c κs =
+    let loop = c .before .before .before .before .before .before .before .before .before .loop in
+    let pre = c .before .before .before .before .before .before .before .before .before .before .before .before .before
+    .before .before .before .before .before .before .before .before .pre in (
+      omega (arith, c .before .before .part-of .ensures .shorter),
+      (
+        rw (loop .inv .wide) (pre .1 .0),
+        pre .1 .1,
+        omega (arith, c .before .budget-of .ensures),
+        omega (arith, loop .inv .long, pre .1 .2),
+      ),
+    )
 
-multi-service-add-used-2 : (t : ℕ) → multi-service-lts.Need-add-used-2 (multi-service-calls t) (multi-service-at t) multi-service.Post multi-service-Inv-loop multi-service-μ-loop
-multi-service-add-used-2 t c = omega (arith, c .before .before .before .before .before .part .ensures .placed .length-is, c .before .before .before .before .before .part .ensures .least, c .before .before .before .before .before .before .before .before .before .before .before .before .before .before .before .loop .inv .bound, c .before .before .before .before .before .before .before .before .before .before .before .before .before .before .before .loop .inv .small, c .before .before .before .before .before .before .before .budget-of .ensures, c .before .before .before .before .before .before .before .before .before .before .before .before .before .before .before .before .before .before .before .before .before .before .before .before .before .before .before .pre .1 .1)
+multi-service-add-used-2 : (t : ℕ) → multi-service-lts.Need-add-used-2 (multi-service-calls t) (multi-service-at t)
+    multi-service.Post multi-service-Inv-loop multi-service-μ-loop
+multi-service-add-used-2 t c =
+    let part = c .before .before .before .before .before .part in
+    let budget-of = c .before .before .before .before .before .before .before .budget-of in
+    let loop = c .before .before .before .before .before .before .before .before .before .before .before .before .before
+    .before .before .loop in
+    let pre = c .before .before .before .before .before .before .before .before .before .before .before .before .before
+    .before .before .before .before .before .before .before .before .before .before .before .before .before .before .pre in
+    omega (
+      arith,
+      part .ensures .placed .length-is,
+      part .ensures .least,
+      loop .inv .bound,
+      loop .inv .small,
+      budget-of .ensures,
+      pre .1 .1,
+    )
 
-multi-service-loop-again : (t : ℕ) → multi-service-lts.Need-loop-again (multi-service-calls t) (multi-service-at t) multi-service.Post multi-service-Inv-loop multi-service-μ-loop
-multi-service-loop-again t c = going-more _ _ _ _ _ _ _ _ _ _ _ (c .before .before .before .before .before .before .before .before .before .before .before .before .before .before .before .before .loop .inv) _ _ (c .before .before .before .before .before .before .before .before .before .before .before .before .before .before .before .loop-test .taken) (c .before .before .before .before .before .before .before .before .before .part-of .ensures) (c .before .before .before .before .before .before .before .before .budget-of .ensures) _ _ _ _ (c .before .before .before .before .before .before .before .before .before .before .before .before .before .put-offset .ensures) (c .before .before .before .before .before .before .part .ensures) (c .before .before .before .before .before .before .before .before .before .before .before .before .before .before .before .before .before .before .before .before .before .before .before .before .before .before .before .before .pre .1 .2) (c .before .before .before .before .before .before .before .before .before .before .before .before .before .put-offset .kept .0) (c .before .before .before .before .before .before .part .kept .1 .1 .1 .1 .1 .1 .1 .1 .1 .1 .1 .1 .1 .1 .0) (c .before .before .before .before .before .before .part .kept .1 .1 .1 .1 .1 .1 .1 .1 .1 .0) _ (c .also .ensures)
+multi-service-loop-again : (t : ℕ) → multi-service-lts.Need-loop-again (multi-service-calls t) (multi-service-at t)
+    multi-service.Post multi-service-Inv-loop multi-service-μ-loop
+multi-service-loop-again t c =
+    let back = c .before .before .before .before .before .before in let part = back .part in
+    let back = back .before .before in let budget-of = back .budget-of in
+    let back = back .before in let part-of = back .part-of in
+    let back = back .before .before .before .before in let put-offset = back .put-offset in
+    let back = back .before .before in let loop-test = back .loop-test in
+    let loop = back .before .loop in
+    let pre = back .before .before .before .before .before .before .before .before .before .before .before .before
+    .before .pre in
+    going-more _ _ _ _ _ _ _ _ _ _ _ (loop .inv) _ _ (loop-test .taken) (part-of .ensures) (budget-of .ensures) _ _ _ _
+    (put-offset .ensures) (part .ensures) (pre .1 .2) (put-offset .kept .0)
+    (part .kept .1 .1 .1 .1 .1 .1 .1 .1 .1 .1 .1 .1 .1 .1 .0) (part .kept .1 .1 .1 .1 .1 .1 .1 .1 .1 .0) _
+    (c .also .ensures)
 
-multi-service-returns-3 : (t : ℕ) → multi-service-lts.Need-returns-3 (multi-service-calls t) (multi-service-at t) multi-service.Post multi-service-Inv-loop multi-service-μ-loop
-multi-service-returns-3 t c = envelope-runs _ _ _ _ _ _ _ _ _ _ _ (c .before .before .before .before .before .before .before .before .before .before .takes-envelopes .ensures) (c .before .before .before .before .before .before .before .before .before .if1 .left) (has-parts (c .before .before .before .before .before .before .before .before .before .before .before .before .before .before .before .before .before .args .body .now) _ (c .before .before .before .before .before .before .before .before .has-parts .ensures) (not-false _ (c .before .before .before .before .before .before .before .if2 .left))) (c .before .before .before .before .before .before .count-of .ensures .0)
-    (going-end _ _ _ _ _ _ _ _ _ _ _ (c .before .before .before .before .before .loop .inv) _ _ (le-antisymm (c .before .before .before .before .before .loop .inv .turn) (c .before .before .before .before .loop-test .left)) (c .before .before .close .ensures) (c .before .before .before .before .before .before .before .before .before .before .before .before .before .before .before .before .before .pre .1 .2))
+multi-service-returns-3 : (t : ℕ) → multi-service-lts.Need-returns-3 (multi-service-calls t) (multi-service-at t)
+    multi-service.Post multi-service-Inv-loop multi-service-μ-loop
+multi-service-returns-3 t c =
+    let back = c .before .before .before .before in let loop-test = back .loop-test in
+    let back = back .before in let loop = back .loop in
+    let back = back .before in let count-of = back .count-of in
+    let back = back .before in let if2 = back .if2 in
+    let has-parts-at = back .before .has-parts in
+    let back = back .before .before in let if1 = back .if1 in
+    let takes-envelopes = back .before .takes-envelopes in
+    let start = back .before .before .before .before .before .before .before .before in
+    envelope-runs _ _ _ _ _ _ _ _ _ _ _ (takes-envelopes .ensures) (if1 .left)
+    (has-parts (start .args .body .now) _ (has-parts-at .ensures) (not-false _ (if2 .left))) (count-of .ensures .0)
+    (going-end _ _ _ _ _ _ _ _ _ _ _ (loop .inv) _ _ (le-antisymm (loop .inv .turn) (loop-test .left))
+    (c .before .before .close .ensures) (start .pre .1 .2))
 
 part-returns : (t : ℕ) → part-lts.Need-returns (part-calls t) (part-at t) part.Post
 part-returns t c =
     let back = c .before .before .before .before in let if1 = back .if1 in
-    let back = back .before in let first-of = back .first-of in
-    let pre = back .before .before .before .before .before .before .before .pre in
-    part-declined _ _ _ _ _ _ _ _ _ _ (first-of .ensures) (if1 .taken) (pre .1 .3) (c .before .before .refuse-part .ensures)
+    let first-of = back .before .first-of in
+    let pre = back .before .before .before .before .before .before .before .before .pre in
+    part-declined _ _ _ _ _ _ _ _ _ _ (first-of .ensures) (if1 .taken) (pre .1 .3)
+    (c .before .before .refuse-part .ensures)
 
 part-dispatch-requires : (t : ℕ) → part-lts.Need-dispatch-requires (part-calls t) (part-at t) part.Post
-part-dispatch-requires t c κs = (search needs, (c .before .before .before .before .before .before .before .before .before .before .before .pre .1 .0, omega (arith, c .before .before .before .before .before .before .before .before .before .before .before .pre .1 .1, c .before .before .before .before .before .before .before .before .before .before .before .pre .1 .2), tail-room (c .before .before .before .before .before .before .before .before .before .before .before .args .buf .now) (c .before .before .before .before .before .before .before .before .before .before .before .args .budget) (c .before .before .before .before .before .before .before .before .before .before .before .args .limit) (c .before .before .before .before .before .before .before .before .before .before .before .args .used) (c .before .before .if2 .taken) (c .before .before .before .before .before .before .before .before .before .before .before .pre .1 .2) (c .before .before .before .before .before .before .before .before .before .before .before .pre .1 .3)))
+part-dispatch-requires t c κs =
+    let pre = c .before .before .before .before .before .before .before .before .before .before .before .pre in
+    let args = c .before .before .before .before .before .before .before .before .before .before .before .args in (
+      search needs,
+      (
+        pre .1 .0,
+        omega (arith, pre .1 .1, pre .1 .2),
+        tail-room (args .buf .now) (args .budget) (args .limit) (args .used) (c .before .before .if2 .taken) (pre .1 .2)
+            (pre .1 .3),
+      ),
+    )
 
 part-returns-2 : (t : ℕ) → part-lts.Need-returns-2 (part-calls t) (part-at t) part.Post
-part-returns-2 t c = part-in-place _ _ _ _ _ _ (c .before .before .before .before .before .before .before .before .before .before .first-of .ensures) (c .before .before .before .before .before .before .before .before .before .if1 .left) _ _ _ _ _ _ (c .before .before .before .before .before .before .before .before .if2 .taken) (c .before .before .before .before .before .before .before .before .before .before .before .before .before .before .before .before .before .pre .1 .2) (c .before .before .before .before .before .before .before .before .before .before .before .before .before .before .before .before .before .pre .1 .3) (c .before .before .before .before .before .dispatch .ensures)
+part-returns-2 t c =
+    let back = c .before .before .before .before .before in let dispatch = back .dispatch in
+    let back = back .before .before .before in let if2 = back .if2 in
+    let if1 = back .before .if1 in
+    let first-of = back .before .before .first-of in
+    let pre = back .before .before .before .before .before .before .before .before .before .pre in
+    part-in-place _ _ _ _ _ _ (first-of .ensures) (if1 .left) _ _ _ _ _ _ (if2 .taken) (pre .1 .2) (pre .1 .3)
+    (dispatch .ensures)
 
 part-dispatch-requires-2 : (t : ℕ) → part-lts.Need-dispatch-requires-2 (part-calls t) (part-at t) part.Post
-part-dispatch-requires-2 t c κs = (search needs, (c .before .before .before .before .before .before .before .before .before .before .before .pre .1 .0, omega (arith, c .before .before .before .before .before .before .before .before .before .before .before .pre .1 .1, c .before .before .before .before .before .before .before .before .before .before .before .pre .1 .2), omega arith))
+part-dispatch-requires-2 t c κs =
+    let pre = c .before .before .before .before .before .before .before .before .before .before .before .pre in
+    (search needs, (pre .1 .0, omega (arith, pre .1 .1, pre .1 .2), omega arith))
 
 part-place-requires : (t : ℕ) → part-lts.Need-place-requires (part-calls t) (part-at t) part.Post
-part-place-requires t c κs = (part-some _ _ _ _ _ _ (c .before .before .before .before .before .before .before .before .before .before .first-of .ensures) (c .before .before .before .before .before .before .before .before .before .if1 .left) _ _ _ _ (c .before .before .before .before .before .before .before .before .if2 .left) refl (c .before .before .before .before .before .dispatch2 .ensures), part-fits _ _ _ _ _ _ (c .before .before .before .before .before .before .before .before .before .before .first-of .ensures) (c .before .before .before .before .before .before .before .before .before .if1 .left) _ _ _ _ (c .before .before .before .before .before .before .before .before .if2 .left) refl (c .before .before .before .before .before .dispatch2 .ensures) (c .before .before .before .before .before .dispatch2 .kept .1 .1 .1 .1 .1 .1 .1 .1 .1 .1 .1 .1 .0), c .before .before .before .before .before .before .before .before .before .before .before .before .before .before .before .before .before .pre .1 .3)
+part-place-requires t c κs =
+    let back = c .before .before .before .before .before in let dispatch2 = back .dispatch2 in
+    let back = back .before .before .before in let if2 = back .if2 in
+    let if1 = back .before .if1 in
+    let first-of = back .before .before .first-of in
+    let pre = back .before .before .before .before .before .before .before .before .before .pre in (
+      part-some _ _ _ _ _ _ (first-of .ensures) (if1 .left) _ _ _ _ (if2 .left) refl (dispatch2 .ensures),
+      part-fits _ _ _ _ _ _ (first-of .ensures) (if1 .left) _ _ _ _ (if2 .left) refl (dispatch2 .ensures)
+          (dispatch2 .kept .1 .1 .1 .1 .1 .1 .1 .1 .1 .1 .1 .1 .0),
+      pre .1 .3,
+    )
 
 part-returns-3 : (t : ℕ) → part-lts.Need-returns-3 (part-calls t) (part-at t) part.Post
 part-returns-3 t c =
     let back = c .before .before .before .before .before .before .before .before in let dispatch2 = back .dispatch2 in
     let back = back .before .before .before in let if2 = back .if2 in
-    let back = back .before in let if1 = back .if1 in
-    let back = back .before in let first-of = back .first-of in
-    let pre = back .before .before .before .before .before .before .before .pre in
+    let if1 = back .before .if1 in
+    let first-of = back .before .before .first-of in
+    let pre = back .before .before .before .before .before .before .before .before .before .pre in
     part-by-scratch _ _ _ _ _ _ (first-of .ensures) (if1 .left) _ _ _ _ (if2 .left) refl (dispatch2 .ensures) _ _ _ _ _
     (pre .1 .3) (c .before .before .place .ensures)
 
