@@ -21,16 +21,24 @@ loop-holds : tie.Need-loop-holds Inv-loop μ-loop
 loop-holds c = (paste-zero (c .args .buf .now) (c .args .at) (c .args .src .now), search needs, refl)
 
 loop-again : tie.Need-loop-again Inv-loop μ-loop
-loop-again c = let l = c .before .before .loop in
+loop-again c =
+    let l = c .before .before .loop in
     let a = c .before .before .before .args in
-    let more : a .at + l .j < length (a .buf .now) = omega arith in
-    (ap (λ (x : List ℕ). set x (a .at + l .j) (getD (a .src .now) (l .j) 0)) (l .inv .0) ∙ paste-suc (a .buf .now) (a .at) (a .src .now) (l .j) 0 more (c .before .loop-test .taken) ∙ ap (paste (a .buf .now) (a .at) (a .src .now)) (sym (add-one (l .j))), omega arith, simp length-set (l .inv .2))
+    let more : a .at + l .j < length (a .buf .now) = omega arith in (
+      ap (λ (x : List ℕ). set x (a .at + l .j) (getD (a .src .now) (l .j) 0)) (l .inv .0) ∙ paste-suc (a .buf .now)
+          (a .at) (a .src .now) (l .j) 0 more (c .before .loop-test .taken) ∙ ap (paste (a .buf .now) (a .at) (a .src .now))
+          (sym (add-one (l .j))),
+      omega arith,
+      simp length-set (l .inv .2),
+    )
 
 same-length : tie.Need-same-length Inv-loop μ-loop
 same-length c = c .before .loop .inv .2
 
 returns : tie.Need-returns Inv-loop μ-loop
-returns c = c .before .loop .inv .0 ∙ paste-put _ _ _ _ (le-antisymm (c .before .loop .inv .1) (c .loop-test .left))
+returns c =
+    let loop = c .before .loop in
+    loop .inv .0 ∙ paste-put _ _ _ _ (le-antisymm (loop .inv .1) (c .loop-test .left))
 
 pub copy-into-spec : {M : Type 1} → statement M
 copy-into-spec =

@@ -6,7 +6,12 @@ use Rattle.cip.proofs.finish.Statement.{statement}
 use Rattle.cip.proofs.finish.Tie as tie
 
 returns : tie.Need-returns
-returns c = (refl, c .before .before .zero-from .ensures ∙ ap (λ (m : ℕ). zeroed (c .before .before .before .before .before .before .args .used) m (c .before .before .before .before .before .before .args .buf .now)) (c .before .before .before .room-of .ensures))
+returns c =
+    let room-of = c .before .before .before .room-of in
+    let args = c .before .before .before .before .before .before .args in (
+      refl,
+      c .before .before .zero-from .ensures ∙ ap (λ (m : ℕ). zeroed (args .used) m (args .buf .now)) (room-of .ensures),
+    )
 
 pub finish-spec : {M : Type 1} → statement M
 finish-spec = tie.close (tie.spec (λ c κs. search needs) (λ c κs. search needs) (λ c. search needs) returns)

@@ -6,7 +6,11 @@ use Rattle.cip.proofs.put_start.Statement.{statement}
 use Rattle.cip.proofs.put_start.Tie as tie
 
 returns : tie.Need-returns
-returns c = put-then _ _ _ _ _ _ _ (put-then _ _ _ _ _ _ _ (c .before .before .before .before .before .before .before .before .before .before .put-u8 .ensures) (c .before .before .before .before .before .before .put-u82 .ensures) refl (omega arith)) (c .before .before .put-u83 .ensures) refl (omega arith)
+returns c =
+    let put-u82 = c .before .before .before .before .before .before .put-u82 in
+    let put-u8 = c .before .before .before .before .before .before .before .before .before .before .put-u8 in
+    put-then _ _ _ _ _ _ _ (put-then _ _ _ _ _ _ _ (put-u8 .ensures) (put-u82 .ensures) refl (omega arith))
+    (c .before .before .put-u83 .ensures) refl (omega arith)
 
 pub put-start-spec : {M : Type 1} → statement M
 put-start-spec =

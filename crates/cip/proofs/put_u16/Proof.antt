@@ -6,7 +6,9 @@ use Rattle.cip.proofs.put_u16.Statement.{statement}
 use Rattle.cip.proofs.put_u16.Tie as tie
 
 returns : tie.Need-returns
-returns c = put-then _ _ _ _ _ _ _ (c .before .before .before .before .before .before .put-u8 .ensures) (c .before .before .put-u82 .ensures) refl (omega arith)
+returns c =
+    let put-u8 = c .before .before .before .before .before .before .put-u8 in
+    put-then _ _ _ _ _ _ _ (put-u8 .ensures) (c .before .before .put-u82 .ensures) refl (omega arith)
 
 pub put-u16-spec : {M : Type 1} → statement M
 put-u16-spec =

@@ -6,8 +6,13 @@ use Rattle.cip.proofs.put_u32.Statement.{statement}
 use Rattle.cip.proofs.put_u32.Tie as tie
 
 returns : tie.Need-returns
-returns c = let two = put-then _ _ _ _ _ _ _ (c .before .before .before .before .before .before .before .before .before .before .before .before .before .before .put-u8 .ensures) (c .before .before .before .before .before .before .before .before .before .before .put-u82 .ensures) refl (omega arith) in
-    let three = put-then _ _ _ _ _ _ _ two (c .before .before .before .before .before .before .put-u83 .ensures) refl (omega arith) in
+returns c =
+    let put-u83 = c .before .before .before .before .before .before .put-u83 in
+    let put-u82 = c .before .before .before .before .before .before .before .before .before .before .put-u82 in
+    let put-u8 = c .before .before .before .before .before .before .before .before .before .before .before .before
+    .before .before .put-u8 in
+    let two = put-then _ _ _ _ _ _ _ (put-u8 .ensures) (put-u82 .ensures) refl (omega arith) in
+    let three = put-then _ _ _ _ _ _ _ two (put-u83 .ensures) refl (omega arith) in
     put-then _ _ _ _ _ _ _ three (c .before .before .put-u84 .ensures) refl (omega arith)
 
 pub put-u32-spec : {M : Type 1} → statement M

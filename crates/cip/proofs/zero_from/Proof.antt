@@ -20,16 +20,25 @@ loop-holds : tie.Need-loop-holds Inv-loop μ-loop
 loop-holds c = (zeroed-none _ _, search needs, search needs, refl)
 
 loop-again : tie.Need-loop-again Inv-loop μ-loop
-loop-again c = let l = c .before .loop in
+loop-again c =
+    let l = c .before .loop in
     let a = c .before .before .args in
-    let more : l .j < length (a .buf .now) = omega arith in
-    (ap (λ (x : List ℕ). set x (l .j) 0) (l .inv .0) ∙ zeroed-more (a .at) (l .j) (a .buf .now) (l .inv .1) more, omega arith, omega arith, simp length-set (l .inv .3))
+    let more : l .j < length (a .buf .now) = omega arith in (
+      ap (λ (x : List ℕ). set x (l .j) 0) (l .inv .0) ∙ zeroed-more (a .at) (l .j) (a .buf .now) (l .inv .1) more,
+      omega arith,
+      omega arith,
+      simp length-set (l .inv .3),
+    )
 
 same-length : tie.Need-same-length Inv-loop μ-loop
 same-length c = c .before .loop .inv .3
 
 returns : tie.Need-returns Inv-loop μ-loop
-returns c = c .before .loop .inv .0 ∙ ap (λ (k : ℕ). zeroed (c .before .before .args .at) k (c .before .before .args .buf .now)) (le-antisymm (c .before .loop .inv .2) (c .loop-test .left))
+returns c =
+    let loop = c .before .loop in
+    let args = c .before .before .args in
+    loop .inv .0 ∙ ap (λ (k : ℕ). zeroed (args .at) k (args .buf .now))
+    (le-antisymm (loop .inv .2) (c .loop-test .left))
 
 pub zero-from-spec : {M : Type 1} → statement M
 zero-from-spec =

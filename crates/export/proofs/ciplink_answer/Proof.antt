@@ -4,7 +4,10 @@ use Rattle.export.proofs.ciplink_answer.Statement.{statement}
 use Rattle.export.proofs.ciplink_answer.Tie as tie
 
 returns : tie.Need-returns
-returns c = answer-told _ _ _ (c .before .before .before .before .before .before .before .before .flags-of .ensures) _ _ _ _ _ _ _ _ (c .before .before .before .before .before .answer .ensures) (c .long .ensures)
+returns c =
+    let back = c .before .before .before .before .before in let answer = back .answer in
+    let flags-of = back .before .before .before .flags-of in
+    answer-told _ _ _ (flags-of .ensures) _ _ _ _ _ _ _ _ (answer .ensures) (c .long .ensures)
 
 pub ciplink-answer-spec : {M : Type 1} → statement M
 ciplink-answer-spec =

@@ -9,10 +9,18 @@ add-result : tie.Need-add-result
 add-result c = omega (arith, c .number-of .ensures .1)
 
 returns : tie.Need-returns
-returns c = told-reply _ _ _ (c .before .before .before .before .before .before .before .before .before .before .before .flags-of .ensures) _ _ _ _ _ _ _ (c .before .before .before .before .before .before .before .before .message .ensures) _ _ (c .before .before .n .given .1) (c .long .ensures)
+returns c =
+    let back = c .before .before .before .before .before .before .before .before in let message = back .message in
+    let flags-of = back .before .before .before .flags-of in
+    told-reply _ _ _ (flags-of .ensures) _ _ _ _ _ _ _ (message .ensures) _ _ (c .before .before .n .given .1)
+    (c .long .ensures)
 
 returns-2 : tie.Need-returns-2
-returns-2 c = told-refused _ _ _ (c .before .before .before .before .before .before .before .before .before .before .before .flags-of .ensures) _ _ _ _ _ _ _ (c .before .before .before .before .before .before .before .before .message .ensures) _ _ _ (c .before .before .why .given .1) (c .number-of .ensures .0) refl
+returns-2 c =
+    let back = c .before .before .before .before .before .before .before .before in let message = back .message in
+    let flags-of = back .before .before .before .flags-of in
+    told-refused _ _ _ (flags-of .ensures) _ _ _ _ _ _ _ (message .ensures) _ _ _ (c .before .before .why .given .1)
+    (c .number-of .ensures .0) refl
 
 pub ciplink-message-spec : {M : Type 1} → statement M
 ciplink-message-spec =

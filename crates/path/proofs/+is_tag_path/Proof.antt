@@ -27,7 +27,18 @@ is-tag-path-below t =
     and 1 is-tag-path-kinds.ps (falls 1 is-tag-path-kinds.ps _<_ μ-is-tag-path t) is-tag-path.Pre
 
 abbrev is-tag-path-calls : ℕ → is-tag-path-lts.Claims
-is-tag-path-calls t = (decode-reads.Asked, decode-reads.Learnt, symbol-name-reads.Asked, symbol-name-reads.Learnt, is-program-name-reads.Asked, is-program-name-reads.Learnt, is-tag-path-below t, is-tag-path.Post, is-symbol-object-reads.Asked, is-symbol-object-reads.Learnt)
+is-tag-path-calls t = (
+  decode-reads.Asked,
+  decode-reads.Learnt,
+  symbol-name-reads.Asked,
+  symbol-name-reads.Learnt,
+  is-program-name-reads.Asked,
+  is-program-name-reads.Learnt,
+  is-tag-path-below t,
+  is-tag-path.Post,
+  is-symbol-object-reads.Asked,
+  is-symbol-object-reads.Learnt,
+)
 
 pub +is-tag-path-spec : {M : Type 1} → statement M
 +is-tag-path-spec = close μ-is-tag-path λ t. is-tag-path-lts.spec (is-tag-path-calls t) (is-tag-path-at t)

@@ -12,7 +12,9 @@ unfolding isProgramName
 returns c = search chain
 
 slice-aggregate-same-name : tie.Need-slice-aggregate-same-name
-slice-aggregate-same-name c = sym (length-take-le 8 (c .before .before .before .args .name .now) (omega arith))
+slice-aggregate-same-name c =
+    let args = c .before .before .before .args in
+    sym (length-take-le 8 (args .name .now) (omega arith))
 
 returns-2 : tie.Need-returns-2
 unfolding isProgramName

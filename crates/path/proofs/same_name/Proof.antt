@@ -17,18 +17,32 @@ slice-aggregate-agree : tie.Need-slice-aggregate-agree
 slice-aggregate-agree c = sym (length-take-le _ _ (omega arith))
 
 slice-aggregate-agree-2 : tie.Need-slice-aggregate-agree-2
-slice-aggregate-agree-2 c = sym (length-take-le _ _ (omega (arith, c .before .before .before .before .before .before .if1 .left)))
+slice-aggregate-agree-2 c =
+    let if1 = c .before .before .before .before .before .before .if1 in
+    sym (length-take-le _ _ (omega (arith, if1 .left)))
 
 agree-requires-2 : tie.Need-agree-requires-2
-agree-requires-2 c κs = length-take-le (length (c .before .before .before .before .before .before .before .before .before .args .a .now) / 2) (c .before .before .before .before .before .before .before .before .before .args .a .now) (omega arith) ∙ sym (length-take-le (length (c .before .before .before .before .before .before .before .before .before .args .a .now) / 2) (c .before .before .before .before .before .before .before .before .before .args .b .now) (omega (arith, c .before .before .before .before .before .before .if1 .left)))
+agree-requires-2 c κs =
+    let if1 = c .before .before .before .before .before .before .if1 in
+    let args = c .before .before .before .before .before .before .before .before .before .args in
+    length-take-le (length (args .a .now) / 2) (args .a .now) (omega arith) ∙ sym
+    (length-take-le (length (args .a .now) / 2) (args .b .now) (omega (arith, if1 .left)))
 
 returns-2 : tie.Need-returns-2
-returns-2 c = let m = length (c .before .before .before .before .before .before .before .before .before .before .args .a .now) / 2 in
-    agree-first sameByte m (c .before .before .before .before .before .before .before .before .before .before .args .a .now) _ (c .before .before .before .before .before .before .before .before .before .before .args .b .now) _ (to-end (c .before .before .before .before .before .before .before .before .before .before .args .a .now) m) (to-end (c .before .before .before .before .before .before .before .before .before .before .args .b .now) m) _ (c .before .before .before .before .agree .ensures) _ (c .before .before .before .if2 .taken) (c .agree2 .ensures)
+returns-2 c =
+    let back = c .before .before .before in let if2 = back .if2 in
+    let agree = back .before .agree in
+    let args = back .before .before .before .before .before .before .before .args in
+    let m = length (args .a .now) / 2 in
+    agree-first sameByte m (args .a .now) _ (args .b .now) _ (to-end (args .a .now) m) (to-end (args .b .now) m) _
+    (agree .ensures) _ (if2 .taken) (c .agree2 .ensures)
 
 returns-3 : tie.Need-returns-3
-returns-3 c = let m = length (c .before .before .before .before .before .before .before .args .a .now) / 2 in
-    agree-second sameByte m (c .before .before .before .before .before .before .before .args .a .now) _ (c .before .before .before .before .before .before .before .args .b .now) _ (to-end (c .before .before .before .before .before .before .before .args .a .now) m) (to-end (c .before .before .before .before .before .before .before .args .b .now) m) _ (c .before .agree .ensures) (c .if2 .left)
+returns-3 c =
+    let args = c .before .before .before .before .before .before .before .args in
+    let m = length (args .a .now) / 2 in
+    agree-second sameByte m (args .a .now) _ (args .b .now) _ (to-end (args .a .now) m) (to-end (args .b .now) m) _
+    (c .before .agree .ensures) (c .if2 .left)
 
 pub same-name-spec : {M : Type 1} → statement M
 same-name-spec =

@@ -14,10 +14,16 @@ returns-2 : tie.Need-returns-2
 returns-2 c = split-cut _ (omega (arith, c .before .twice .ensures))
 
 returns-3 : tie.Need-returns-3
-returns-3 c = ap (splitBy _) (sym (c .enum-told .given .1)) ∙ split-checked _ _ _ (c .before .before .before .before .before .twice .ensures) (omega arith) (simp add-sub-cancel-left at (c .before .before .check-path .ensures))
+returns-3 c =
+    let twice = c .before .before .before .before .before .twice in
+    ap (splitBy _) (sym (c .enum-told .given .1)) ∙ split-checked _ _ _ (twice .ensures) (omega arith)
+    (simp add-sub-cancel-left at (c .before .before .check-path .ensures))
 
 returns-4 : tie.Need-returns-4
-returns-4 c = ap (splitBy _) (sym (c .enum-told2 .given .1)) ∙ split-checked _ _ _ (c .before .before .before .before .before .twice .ensures) (omega arith) (simp add-sub-cancel-left at (c .before .before .check-path .ensures))
+returns-4 c =
+    let twice = c .before .before .before .before .before .twice in
+    ap (splitBy _) (sym (c .enum-told2 .given .1)) ∙ split-checked _ _ _ (twice .ensures) (omega arith)
+    (simp add-sub-cancel-left at (c .before .before .check-path .ensures))
 
 pub split-request-spec : {M : Type 1} → statement M
 split-request-spec =

@@ -30,9 +30,12 @@ use ghost.Atoms.{Atoms, sem}
 use contract.Lifetimes.{Lfts}
 use contract.Monad.{Fun, fact}
 use contract.Running.{givenOf, tables, tablesOf}
-use types.Kit.{Given, Item, ‵, raw, _⊛_, some, later, ⋆, anyQ, atRet, _$_, _∵_, !, qed, by, move, keep, use1, drop, split, join, pick, rewrite, fsplit, fjoin, suffices, frame, await, done}
+use types.Kit.{Given, Item, ‵, raw, _⊛_, some, later, ⋆, anyQ, atRet, _$_, _∵_, !, qed, by, move, keep, use1, drop}
+use types.Kit.{split, join, pick, rewrite, fsplit, fjoin, suffices, frame, await, done}
 use types.Part.{whole, sub, look-in}
-use types.Run.{look, look-raw, init, store, store-raw, forget, stop, hop, fld, from, load, lit, of-opd, bin, and-then, no-more, assigns, assigns-last, land, stays, leaves-loop, returns, enter, exec, alloc1, alloc0, params1, pass1, pass0, free1, free0}
+use types.Run.{look, look-raw, init, store, store-raw, forget, stop, hop, fld, from, load, lit, of-opd, bin, and-then}
+use types.Run.{no-more, assigns, assigns-last, land, stays, leaves-loop, returns, enter, exec, alloc1, alloc0, params1}
+use types.Run.{pass1, pass0, free1, free0}
 use types.Share.{arr-parts}
 use sound.Loop.{loop-rule}
 use sound.WpLaws.{fmOf, WpFn-mono}
@@ -366,8 +369,10 @@ module _ {M : Type 1} (𝓤 : URA M) (H : Heap 𝓤) (A : Atoms 𝓤) (W : Given
 pub pack-spec : {M : Type 1} → stated.statement M
 unfolding code.routine tablesOf
 pack-spec 𝓤 H 𝓜 𝓖 𝓡 =
-    entered 𝓤 H (tripleOf 𝓤 H (𝓖 .A) f.signature (f.spec 𝓤 H (𝓖 .A) (𝓜 .mem) (𝓡 .run)))
-    (tables 𝓤 H 𝓜 𝓡 code.env .C) (tables 𝓤 H 𝓜 𝓡 code.env .Λ) #records·pack code.function (code.unfolded 𝓤 H 𝓜 𝓡)
+    entered 𝓤 H (tripleOf 𝓤 H (𝓖 .A) f.signature (f.spec 𝓤 H (𝓖 .A) (𝓜 .mem) (𝓡 .run))) (tables 𝓤 H 𝓜 𝓡 code.env .C)
+    (tables 𝓤 H 𝓜 𝓡 code.env .Λ) #records·pack code.function (code.unfolded 𝓤 H 𝓜 𝓡)
     (meets 𝓤 H (𝓖 .A) (givenOf 𝓤 H 𝓜 𝓖) (𝓜 .mem) (𝓡 .run) (tablesOf 𝓤 H 𝓜 (tables 𝓤 H 𝓜 𝓡 code.env))
-    (cited 𝓤 H (Fewer 𝓤 H (𝓖 .A) (givenOf 𝓤 H 𝓜 𝓖) (𝓜 .mem) (𝓡 .run)) 𝓜 𝓡 code.env #records·fewer fewer-def.routine code.calls-records·fewer (fewer-thm.met 𝓤 H 𝓜 𝓖 𝓡))
-    (cited 𝓤 H (RowOf 𝓤 H (𝓖 .A) (givenOf 𝓤 H 𝓜 𝓖) (𝓜 .mem) (𝓡 .run)) 𝓜 𝓡 code.env #records·row-of row-of-def.routine code.calls-records·row-of (row-of-thm.met 𝓤 H 𝓜 𝓖 𝓡)))
+    (cited 𝓤 H (Fewer 𝓤 H (𝓖 .A) (givenOf 𝓤 H 𝓜 𝓖) (𝓜 .mem) (𝓡 .run)) 𝓜 𝓡 code.env #records·fewer fewer-def.routine
+    code.calls-records·fewer (fewer-thm.met 𝓤 H 𝓜 𝓖 𝓡)) (cited 𝓤 H
+    (RowOf 𝓤 H (𝓖 .A) (givenOf 𝓤 H 𝓜 𝓖) (𝓜 .mem) (𝓡 .run)) 𝓜 𝓡 code.env #records·row-of row-of-def.routine
+    code.calls-records·row-of (row-of-thm.met 𝓤 H 𝓜 𝓖 𝓡)))

@@ -7,7 +7,9 @@ use Rattle.records.proofs.pack_one.Statement.{statement}
 use Rattle.records.proofs.pack_one.Tie as tie
 
 returns : tie.Need-returns
-returns c = ap (λ (r : List ℕ). set (c .before .args .rows .now) (c .before .args .i) r) (c .row-of .ensures)
+returns c =
+    let args = c .before .args in
+    ap (λ (r : List ℕ). set (args .rows .now) (args .i) r) (c .row-of .ensures)
 
 pub pack-one-spec : {M : Type 1} → statement M
 pack-one-spec = tie.close (tie.spec (λ c κs. search needs) (λ c. search needs) (λ c. search needs) (λ c. search needs) returns)

@@ -20,7 +20,8 @@ use contract.Monad.{Fun}
 use contract.Running.{givenOf, tables, tablesOf}
 use types.Kit.{Given, ‵, _⊛_, ⋆, _$_, _∵_, !, qed, by, move, keep, drop, split, join, rewrite, fsplit, fjoin, feqI, suffices, frame, done}
 use types.Part.{whole, sub, look-in}
-use types.Run.{look, init, store-raw, forget, stop, hop, fld, from, load, lit, unit-lit, of-opd, bin, assigns, returns, enter, alloc1, alloc0, params1, pass1, pass0, free1, free0}
+use types.Run.{look, init, store-raw, forget, stop, hop, fld, from, load, lit, unit-lit, of-opd, bin, assigns, returns}
+use types.Run.{enter, alloc1, alloc0, params1, pass1, pass0, free1, free0}
 use sound.WpLaws.{WpFn-mono}
 use denote.RattleType.{owns}
 use denote.Shadow.{pureI}
@@ -116,8 +117,14 @@ module _ {M : Type 1} (𝓤 : URA M) (H : Heap 𝓤) (A : Atoms 𝓤) (W : Given
 meets : {M : Type 1} (𝓤 : URA M) (H : Heap 𝓤) (A : Atoms 𝓤) → Given 𝓤 H A → (mem : Memory → SProp 𝓤) (run : Routine → Fun 𝓤) (𝓣 : Tables 𝓤 H)
     → Meets 𝓤 H A f.signature (WpFn 𝓤 H (𝓣 .C) (𝓣 .Λ) code.function) (f.spec 𝓤 H A mem run)
 meets 𝓤 H A W mem run 𝓣 =
-    walk-meets 𝓤 H A f.ended stayed W (goes-slice 𝓤 H A W 1 0 tt (plain (λ _. T.the-row)), (goes-none 𝓤 H A W 1 (λ _. usize) yes (λ κs x f. refl), (goes-none 𝓤 H A W 1 (λ _. T.the-row) yes (λ κs x f. refl), tt))) (f.clauses 𝓤 H A mem run)
-    (WpFn 𝓤 H (𝓣 .C) (𝓣 .Λ) code.function) (WpFn-mono 𝓤 H (W .laws) 𝓣 code.function) (walks 𝓤 H A W mem run (𝓣 .C) (𝓣 .Λ))
+    walk-meets 𝓤 H A f.ended stayed W (
+      goes-slice 𝓤 H A W 1 0 tt (plain (λ _. T.the-row)),
+      (
+        goes-none 𝓤 H A W 1 (λ _. usize) yes (λ κs x f. refl),
+        (goes-none 𝓤 H A W 1 (λ _. T.the-row) yes (λ κs x f. refl), tt),
+      ),
+    ) (f.clauses 𝓤 H A mem run) (WpFn 𝓤 H (𝓣 .C) (𝓣 .Λ) code.function) (WpFn-mono 𝓤 H (W .laws) 𝓣 code.function)
+    (walks 𝓤 H A W mem run (𝓣 .C) (𝓣 .Λ))
 
 pub set-tag-spec : {M : Type 1} → stated.statement M
 unfolding code.routine tablesOf

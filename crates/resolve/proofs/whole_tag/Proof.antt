@@ -6,7 +6,11 @@ use Rattle.resolve.proofs.whole_tag.Tie as tie
 
 returns : tie.Need-returns
 unfolding wholeRow
-returns c = rw (c .before .before .before .before .wide .ensures, c .before .wide2 .ensures, whole-lengths _ _ (c .before .before .before .before .before .before .before .before .pre) (c .before .before .before .before .before .before .before .shapes .ensures))
+returns c =
+    let wide = c .before .before .before .before .wide in
+    let shapes = c .before .before .before .before .before .before .before .shapes in
+    let pre = c .before .before .before .before .before .before .before .before .pre in
+    rw (wide .ensures, c .before .wide2 .ensures, whole-lengths _ _ pre (shapes .ensures))
 
 pub whole-tag-spec : {M : Type 1} → statement M
 whole-tag-spec =

@@ -4,13 +4,31 @@ use Rattle.services.proofs.by_service.Statement.{statement}
 use Rattle.services.proofs.by_service.Tie as tie
 
 returns : tie.Need-returns
-returns c = by-page _ (c .before .before .before .before .before .before .before .before .before .before .before .before .args .members .now) _ _ _ _ _ (c .before .before .before .before .before .before .before .before .before .before .before .before .args .templates .now) _ _ _ _ _ _ _ _ _ (c .before .before .before .before .if1 .taken) (c .before .before .before .before .before .before .before .before .before .before .before .before .pre .2) (c .before .before .list-symbols .ensures)
+returns c =
+    let back = c .before .before .before .before in let if1 = back .if1 in
+    let start = back .before .before .before .before .before .before .before .before in
+    by-page _ (start .args .members .now) _ _ _ _ _ (start .args .templates .now) _ _ _ _ _ _ _ _ _ (if1 .taken)
+    (start .pre .2) (c .before .before .list-symbols .ensures)
 
 returns-2 : tie.Need-returns-2
-returns-2 c = by-tag _ _ _ _ _ _ _ _ _ _ _ _ _ _ _ _ _ (c .before .before .before .before .before .before .before .before .before .if1 .left) _ (c .before .before .before .before .before .before .before .before .is-tag-request .ensures) (c .before .before .before .before .before .before .before .if2 .taken) _ (c .before .before .before .before .tag-service .ensures)
+returns-2 c =
+    let back = c .before .before .before .before in let tag-service = back .tag-service in
+    let back = back .before .before .before in let if2 = back .if2 in
+    let is-tag-request = back .before .is-tag-request in
+    let if1 = back .before .before .if1 in
+    by-tag _ _ _ _ _ _ _ _ _ _ _ _ _ _ _ _ _ (if1 .left) _ (is-tag-request .ensures) (if2 .taken) _
+    (tag-service .ensures)
 
 returns-3 : tie.Need-returns-3
-returns-3 c = by-other (c .before .before .before .before .before .before .before .before .before .before .before .before .before .before .args .structures .now) (c .before .before .before .before .before .before .before .before .before .before .before .before .before .before .args .members .now) (c .before .before .before .before .before .before .before .before .before .before .before .before .before .before .args .programs .now) (c .before .before .before .before .before .before .before .before .before .before .before .before .before .before .args .tags .now) (c .before .before .before .before .before .before .before .before .before .before .before .before .before .before .args .others .now) (c .before .before .before .before .before .before .before .before .before .before .before .before .before .before .args .names .now) (c .before .before .before .before .before .before .before .before .before .before .before .before .before .before .args .tag-names .now) (c .before .before .before .before .before .before .before .before .before .before .before .before .before .before .args .templates .now) _ _ _ _ _ _ _ _ _ (c .before .before .before .before .before .before .if1 .left) _ (c .before .before .before .before .before .is-tag-request .ensures) (c .before .before .before .before .if2 .left) (c .before .before .before .before .before .before .before .before .before .before .before .before .before .before .args .o) (c .before .before .before .before .before .before .before .before .before .before .before .before .before .before .pre .1) (c .before .before .refuse-other .ensures)
+returns-3 c =
+    let back = c .before .before .before .before in let if2 = back .if2 in
+    let is-tag-request = back .before .is-tag-request in
+    let if1 = back .before .before .if1 in
+    let start = back .before .before .before .before .before .before .before .before .before .before in
+    by-other (start .args .structures .now) (start .args .members .now) (start .args .programs .now)
+    (start .args .tags .now) (start .args .others .now) (start .args .names .now) (start .args .tag-names .now)
+    (start .args .templates .now) _ _ _ _ _ _ _ _ _ (if1 .left) _ (is-tag-request .ensures) (if2 .left) (start .args .o)
+    (start .pre .1) (c .before .before .refuse-other .ensures)
 
 pub by-service-spec : {M : Type 1} → statement M
 by-service-spec =

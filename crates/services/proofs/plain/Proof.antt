@@ -5,22 +5,55 @@ use Rattle.services.proofs.plain.Statement.{statement}
 use Rattle.services.proofs.plain.Tie as tie
 
 read-template-requires : tie.Need-read-template-requires
-read-template-requires c κs = (in-store _ _ (c .before .before .before .before .before .before .before .before .before .before .before .before .before .before .pre .1), c .before .before .before .before .before .before .before .before .before .before .before .before .before .before .pre .2)
+read-template-requires c κs =
+    let pre = c .before .before .before .before .before .before .before .before .before .before .before .before .before
+    .before .pre in
+    (in-store _ _ (pre .1), pre .2)
 
 enum-told : tie.Need-enum-told
 enum-told c = search needs
 
 returns : tie.Need-returns
-returns c = plain-symbols (c .before .before .before .before .before .before .before .before .before .before .before .before .before .before .before .before .args .structures .now) (c .before .before .before .before .before .before .before .before .before .before .before .before .before .before .before .before .args .members .now) (c .before .before .before .before .before .before .before .before .before .before .before .before .before .before .before .before .args .programs .now) (c .before .before .before .before .before .before .before .before .before .before .before .before .before .before .before .before .args .tags .now) (c .before .before .before .before .before .before .before .before .before .before .before .before .before .before .before .before .args .others .now) (c .before .before .before .before .before .before .before .before .before .before .before .before .before .before .before .before .args .names .now) (c .before .before .before .before .before .before .before .before .before .before .before .before .before .before .before .before .args .tag-names .now) (c .before .before .before .before .before .before .before .before .before .before .before .before .before .before .before .before .args .templates .now) _ _ _ _ _ _ _ _ _ (c .before .before .before .before .before .before .before .before .object-at .result) (c .before .before .before .before .before .before .before .before .object-at .ensures) _ (c .before .before .before .before .before .before .before .own-service .ensures) _ (c .before .before .before .before .before .id .given .1) (c .before .before .symbol-attributes .ensures _ _ _ _)
+returns c =
+    let back = c .before .before .before .before .before in let id = back .id in
+    let back = back .before .before in let own-service = back .own-service in
+    let object-at = back .before .object-at in
+    let args = back .before .before .before .before .before .before .before .before .before .args in
+    plain-symbols (args .structures .now) (args .members .now) (args .programs .now) (args .tags .now)
+    (args .others .now) (args .names .now) (args .tag-names .now) (args .templates .now) _ _ _ _ _ _ _ _ _
+    (object-at .result) (object-at .ensures) _ (own-service .ensures) _ (id .given .1)
+    (c .before .before .symbol-attributes .ensures _ _ _ _)
 
 returns-2 : tie.Need-returns-2
-returns-2 c = plain-structures (c .before .before .before .before .before .before .before .before .before .before .before .before .before .before .before .before .args .structures .now) (c .before .before .before .before .before .before .before .before .before .before .before .before .before .before .before .before .args .members .now) (c .before .before .before .before .before .before .before .before .before .before .before .before .before .before .before .before .args .programs .now) (c .before .before .before .before .before .before .before .before .before .before .before .before .before .before .before .before .args .tags .now) (c .before .before .before .before .before .before .before .before .before .before .before .before .before .before .before .before .args .others .now) (c .before .before .before .before .before .before .before .before .before .before .before .before .before .before .before .before .args .names .now) (c .before .before .before .before .before .before .before .before .before .before .before .before .before .before .before .before .args .tag-names .now) (c .before .before .before .before .before .before .before .before .before .before .before .before .before .before .before .before .args .templates .now) _ _ _ _ _ _ _ _ _ (c .before .before .before .before .before .before .before .before .object-at .result) (c .before .before .before .before .before .before .before .before .object-at .ensures) _ (c .before .before .before .before .before .before .before .own-service .ensures) _ (c .before .before .before .before .before .id2 .given .1) (c .before .before .structure-attributes .ensures)
+returns-2 c =
+    let back = c .before .before .before .before .before in let id2 = back .id2 in
+    let back = back .before .before in let own-service = back .own-service in
+    let object-at = back .before .object-at in
+    let args = back .before .before .before .before .before .before .before .before .before .args in
+    plain-structures (args .structures .now) (args .members .now) (args .programs .now) (args .tags .now)
+    (args .others .now) (args .names .now) (args .tag-names .now) (args .templates .now) _ _ _ _ _ _ _ _ _
+    (object-at .result) (object-at .ensures) _ (own-service .ensures) _ (id2 .given .1)
+    (c .before .before .structure-attributes .ensures)
 
 returns-3 : tie.Need-returns-3
-returns-3 c = plain-template (c .before .before .before .before .before .before .before .before .before .before .before .before .before .before .before .before .before .args .structures .now) (c .before .before .before .before .before .before .before .before .before .before .before .before .before .before .before .before .before .args .members .now) (c .before .before .before .before .before .before .before .before .before .before .before .before .before .before .before .before .before .args .programs .now) (c .before .before .before .before .before .before .before .before .before .before .before .before .before .before .before .before .before .args .tags .now) (c .before .before .before .before .before .before .before .before .before .before .before .before .before .before .before .before .before .args .others .now) (c .before .before .before .before .before .before .before .before .before .before .before .before .before .before .before .before .before .args .names .now) (c .before .before .before .before .before .before .before .before .before .before .before .before .before .before .before .before .before .args .tag-names .now) (c .before .before .before .before .before .before .before .before .before .before .before .before .before .before .before .before .before .args .templates .now) _ _ _ _ _ _ _ _ _ (c .before .before .before .before .before .before .before .before .before .object-at .result) (c .before .before .before .before .before .before .before .before .before .object-at .ensures) _ (c .before .before .before .before .before .before .before .before .own-service .ensures) _ (c .before .before .before .before .before .before .id3 .given .1) (c .before .before .read-template .ensures _ _ _ _ _ _)
+returns-3 c =
+    let back = c .before .before .before .before .before .before in let id3 = back .id3 in
+    let back = back .before .before in let own-service = back .own-service in
+    let object-at = back .before .object-at in
+    let args = back .before .before .before .before .before .before .before .before .before .args in
+    plain-template (args .structures .now) (args .members .now) (args .programs .now) (args .tags .now)
+    (args .others .now) (args .names .now) (args .tag-names .now) (args .templates .now) _ _ _ _ _ _ _ _ _
+    (object-at .result) (object-at .ensures) _ (own-service .ensures) _ (id3 .given .1)
+    (c .before .before .read-template .ensures _ _ _ _ _ _)
 
 returns-4 : tie.Need-returns-4
-returns-4 c = plain-by _ _ _ _ _ _ _ _ _ _ _ _ _ _ _ _ _ (c .before .before .before .before .before .before .before .before .before .before .object-at .result) (c .before .before .before .before .before .before .before .before .before .before .object-at .ensures) _ (c .before .before .before .before .before .before .before .before .before .own-service .ensures) (c .before .before .before .before .before .before .before .enum-told .given .1) _ (c .before .before .before .before .by-service .ensures)
+returns-4 c =
+    let back = c .before .before .before .before in let by-service = back .by-service in
+    let back = back .before .before .before in let enum-told = back .enum-told in
+    let own-service = back .before .before .own-service in
+    let object-at = back .before .before .before .object-at in
+    plain-by _ _ _ _ _ _ _ _ _ _ _ _ _ _ _ _ _ (object-at .result) (object-at .ensures) _ (own-service .ensures)
+    (enum-told .given .1) _ (by-service .ensures)
 
 pub plain-spec : {M : Type 1} → statement M
 plain-spec =

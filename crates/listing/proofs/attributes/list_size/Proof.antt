@@ -15,7 +15,8 @@ abbrev μ-loop : tie.MeasureT-loop
 μ-loop o body n used₀ i₀ used i = n - i
 
 loop-holds : tie.Need-loop-holds Inv-loop μ-loop
-loop-holds c = (search needs, search needs, entries-begin (c .before .args .o) (c .before .args .body .now) 6)
+loop-holds c =
+    (search needs, search needs, let args = c .before .args in entries-begin (args .o) (args .body .now) 6)
 
 add-used : tie.Need-add-used Inv-loop μ-loop
 add-used c = let h = value-short (c .before .object-value .result) in search needs
@@ -24,10 +25,23 @@ add-used-2 : tie.Need-add-used-2 Inv-loop μ-loop
 add-used-2 c = let h = value-short (c .before .object-value .result) in search needs
 
 loop-again : tie.Need-loop-again Inv-loop μ-loop
-loop-again c = (search needs, omega (arith, c .value-size .ensures, value-short (c .before .object-value .result)), entries-size (c .before .before .before .before .before .before .args .o) (c .before .before .before .before .before .before .args .body .now) (c .before .before .before .before .loop .i) (c .before .before .u16-at .result) (c .before .object-value .result) (c .before .before .u16-at .ensures) (c .before .object-value .ensures) 6 _ _ (c .before .before .before .before .loop .inv .2) (c .value-size .ensures))
+loop-again c =
+    let object-value = c .before .object-value in
+    let u16-at = c .before .before .u16-at in
+    let loop = c .before .before .before .before .loop in
+    let args = c .before .before .before .before .before .before .args in (
+      search needs,
+      omega (arith, c .value-size .ensures, value-short (object-value .result)),
+      entries-size (args .o) (args .body .now) (loop .i) (u16-at .result) (object-value .result) (u16-at .ensures)
+          (object-value .ensures) 6 _ _ (loop .inv .2) (c .value-size .ensures),
+    )
 
 returns : tie.Need-returns Inv-loop μ-loop
-returns c = c .before .loop .inv .2 ∙ ap (λ (k : ℕ). 6 + length (entriesTo (c .before .before .before .args .o) (c .before .before .before .args .body .now) k)) (le-antisymm (c .before .loop .inv .0) (c .loop-test .left))
+returns c =
+    let loop = c .before .loop in
+    let args = c .before .before .before .args in
+    loop .inv .2 ∙ ap (λ (k : ℕ). 6 + length (entriesTo (args .o) (args .body .now) k))
+    (le-antisymm (loop .inv .0) (c .loop-test .left))
 
 pub list-size-spec : {M : Type 1} → statement M
 list-size-spec =

@@ -5,14 +5,22 @@ use Rattle.listing.proofs.attributes.program_of.Statement.{statement}
 use Rattle.listing.proofs.attributes.program_of.Tie as tie
 
 sub-find-program : tie.Need-sub-find-program
-sub-find-program c = let h = program-long (c .before .before .before .before .args .name .now) _ (c .before .is-program-name .ensures) (c .if1 .taken) in search needs
+sub-find-program c =
+    let h = (let args = c .before .before .before .before .args in
+    program-long (args .name .now) _ (c .before .is-program-name .ensures) (c .if1 .taken)) in
+    search needs
 
 part-find-program-start : tie.Need-part-find-program-start
-part-find-program-start c = let h = program-long (c .before .before .before .before .args .name .now) _ (c .before .is-program-name .ensures) (c .if1 .taken) in search needs
+part-find-program-start c =
+    let h = (let args = c .before .before .before .before .args in
+    program-long (args .name .now) _ (c .before .is-program-name .ensures) (c .if1 .taken)) in
+    search needs
 
 returns : tie.Need-returns
 unfolding programBy
-returns c = rw (← (c .before .before .before .is-program-name .ensures), c .before .before .if1 .taken) (rw rest-of at (c .find-program .ensures))
+returns c =
+    let is-program-name = c .before .before .before .is-program-name in
+    rw (← (is-program-name .ensures), c .before .before .if1 .taken) (rw rest-of at (c .find-program .ensures))
 
 returns-2 : tie.Need-returns-2
 unfolding programBy

@@ -4,7 +4,14 @@ use Rattle.listing.proofs.attributes.put_entry.Statement.{statement}
 use Rattle.listing.proofs.attributes.put_entry.Tie as tie
 
 returns : tie.Need-returns
-returns c = entry-written (c .before .before .before .before .before .before .before .before .before .before .before .before .before .before .args .number) (c .before .before .before .before .before .before .before .before .before .before .before .before .before .before .args .at) (c .before .before .before .before .before .before .before .status-of .result) (c .before .before .put-value .result) (c .before .before .before .before .before .before .before .before .before .before .before .before .before .before .args .v) _ _ _ _ (c .before .before .before .before .before .before .before .status-of .ensures) (c .before .before .before .before .before .before .before .before .before .before .before .put-u16 .ensures) (c .before .before .before .before .before .before .put-u162 .ensures) (c .before .before .put-value .ensures) (c .before .before .before .before .before .before .before .before .before .before .before .before .before .before .pre)
+returns c =
+    let back = c .before .before in let put-value = back .put-value in
+    let back = back .before .before .before .before in let put-u162 = back .put-u162 in
+    let status-of = back .before .status-of in
+    let back = back .before .before .before .before .before in let put-u16 = back .put-u16 in
+    let start = back .before .before .before in
+    entry-written (start .args .number) (start .args .at) (status-of .result) (put-value .result) (start .args .v) _ _ _
+    _ (status-of .ensures) (put-u16 .ensures) (put-u162 .ensures) (put-value .ensures) (start .pre)
 
 pub put-entry-spec : {M : Type 1} → statement M
 put-entry-spec =

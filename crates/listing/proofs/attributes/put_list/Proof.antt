@@ -10,25 +10,82 @@ use Rattle.listing.proofs.attributes.put_list.Statement.{statement}
 use Rattle.listing.proofs.attributes.put_list.Tie as tie
 
 abbrev Inv-loop : tie.InvT-loop
-Inv-loop buf₀ at o body n used₀ i₀ buf used i = (i ≤ n) × (used ≡ at + length (entriesTo o body i)) × (buf ≡ put buf₀ at (entriesTo o body i)) × (length buf ≡ length buf₀)
+Inv-loop buf₀ at o body n used₀ i₀ buf used i =
+    (i ≤ n) × (used ≡ at + length (entriesTo o body i)) × (buf ≡ put buf₀ at (entriesTo o body i)) ×
+    (length buf ≡ length buf₀)
 
 abbrev μ-loop : tie.MeasureT-loop
 μ-loop buf₀ at o body n used₀ i₀ buf used i = n - i
 
 loop-holds : tie.Need-loop-holds Inv-loop μ-loop
-loop-holds c = (search needs, entries-begin (c .before .before .args .o) (c .before .before .args .body .now) _, entries-unput (c .before .before .args .o) (c .before .before .args .body .now) _ _, refl)
+loop-holds c = (
+  search needs,
+  let args = c .before .before .args in
+      entries-begin (args .o) (args .body .now) _,
+  let args = c .before .before .args in
+      entries-unput (args .o) (args .body .now) _ _,
+  refl,
+)
 
 put-entry-requires : tie.Need-put-entry-requires Inv-loop μ-loop
-put-entry-requires c κs = omega (arith, c .before .before .before .before .loop .inv .3, entries-room (c .before .before .before .before .before .before .before .args .o) (c .before .before .before .before .before .before .before .args .body .now) (c .before .before .before .before .loop .i) (c .before .before .u16-at .result) (c .object-value .result) (c .before .before .u16-at .ensures) (c .object-value .ensures) (c .before .before .before .before .before .before .before .args .n) (c .before .before .before .before .before .before .before .args .at) (c .before .before .before .before .loop .used) (length (c .before .before .before .before .before .before .before .args .buf .now)) (c .before .before .before .loop-test .taken) (c .before .before .before .before .loop .inv .1) (c .before .before .before .before .before .before .before .pre .1))
+put-entry-requires c κs =
+    let u16-at = c .before .before .u16-at in
+    let loop-test = c .before .before .before .loop-test in
+    let loop = c .before .before .before .before .loop in
+    let args = c .before .before .before .before .before .before .before .args in
+    let pre = c .before .before .before .before .before .before .before .pre in
+    omega (
+      arith,
+      loop .inv .3,
+      entries-room (args .o) (args .body .now) (loop .i) (u16-at .result) (c .object-value .result) (u16-at .ensures)
+          (c .object-value .ensures) (args .n) (args .at) (loop .used) (length (args .buf .now)) (loop-test .taken)
+          (loop .inv .1) (pre .1),
+    )
 
 add-used : tie.Need-add-used Inv-loop μ-loop
-add-used c = let h = entries-sum (c .before .before .before .before .before .before .before .before .before .before .args .o) (c .before .before .before .before .before .before .before .before .before .before .args .body .now) (c .before .before .before .before .before .before .before .loop .i) (c .before .before .before .before .before .u16-at .result) (c .before .before .before .object-value .result) (c .before .before .before .before .before .u16-at .ensures) (c .before .before .before .object-value .ensures) (c .before .before .before .before .before .before .before .before .before .before .args .n) (c .before .before .before .before .before .before .before .before .before .before .args .at) (c .before .before .before .before .before .before .before .loop .used) (c .before .before .put-entry .result) (length (c .before .before .before .before .before .before .before .before .before .before .args .buf .now)) _ _ (c .before .before .before .before .before .before .loop-test .taken) (c .before .before .before .before .before .before .before .loop .inv .1) (c .before .before .before .before .before .before .before .before .before .before .pre .1) (c .before .before .put-entry .ensures) in search needs
+add-used c =
+    let h = (let back = c .before .before in
+    let put-entry = back .put-entry in
+    let back = back .before in let object-value = back .object-value in
+    let back = back .before .before in let u16-at = back .u16-at in
+    let loop-test = back .before .loop-test in
+    let loop = back .before .before .loop in
+    let start = back .before .before .before .before .before in
+    entries-sum (start .args .o) (start .args .body .now) (loop .i) (u16-at .result) (object-value .result)
+    (u16-at .ensures) (object-value .ensures) (start .args .n) (start .args .at) (loop .used) (put-entry .result)
+    (length (start .args .buf .now)) _ _ (loop-test .taken) (loop .inv .1) (start .pre .1) (put-entry .ensures)) in
+    search needs
 
 loop-again : tie.Need-loop-again Inv-loop μ-loop
-loop-again c = (search needs, entries-end (c .before .before .before .before .before .before .before .before .before .before .args .o) (c .before .before .before .before .before .before .before .before .before .before .args .body .now) (c .before .before .before .before .before .before .before .loop .i) (c .before .before .before .before .before .u16-at .result) (c .before .before .before .object-value .result) (c .before .before .before .before .before .u16-at .ensures) (c .before .before .before .object-value .ensures) _ _ _ _ _ (c .before .before .before .before .before .before .before .loop .inv .1) (c .before .before .put-entry .ensures), entries-put (c .before .before .before .before .before .before .before .before .before .before .args .o) (c .before .before .before .before .before .before .before .before .before .before .args .body .now) (c .before .before .before .before .before .before .before .loop .i) (c .before .before .before .before .before .u16-at .result) (c .before .before .before .object-value .result) (c .before .before .before .before .before .u16-at .ensures) (c .before .before .before .object-value .ensures) (c .before .before .before .before .before .before .before .before .before .before .args .n) _ _ _ _ _ _ (c .before .before .before .before .before .before .loop-test .taken) (c .before .before .before .before .before .before .before .loop .inv .1) (c .before .before .before .before .before .before .before .before .before .before .pre .1) (c .before .before .before .before .before .before .before .loop .inv .2) (c .before .before .put-entry .ensures), c .before .before .put-entry .kept .0 ∙ c .before .before .before .before .before .before .before .loop .inv .3)
+loop-again c = (
+  search needs,
+  let back = c .before .before .before in let object-value = back .object-value in
+      let back = back .before .before in let u16-at = back .u16-at in
+      let loop = back .before .before .loop in
+      let args = back .before .before .before .before .before .args in
+      entries-end (args .o) (args .body .now) (loop .i) (u16-at .result) (object-value .result) (u16-at .ensures)
+      (object-value .ensures) _ _ _ _ _ (loop .inv .1) (c .before .before .put-entry .ensures),
+  let back = c .before .before .before in let object-value = back .object-value in
+      let back = back .before .before in let u16-at = back .u16-at in
+      let loop-test = back .before .loop-test in
+      let loop = back .before .before .loop in
+      let start = back .before .before .before .before .before in
+      entries-put (start .args .o) (start .args .body .now) (loop .i) (u16-at .result) (object-value .result)
+      (u16-at .ensures) (object-value .ensures) (start .args .n) _ _ _ _ _ _ (loop-test .taken) (loop .inv .1)
+      (start .pre .1) (loop .inv .2) (c .before .before .put-entry .ensures),
+  let loop = c .before .before .before .before .before .before .before .loop in
+      c .before .before .put-entry .kept .0 ∙ loop .inv .3,
+)
 
 returns : tie.Need-returns Inv-loop μ-loop
-returns c = (c .before .loop .inv .1 ∙ ap (λ (k : ℕ). c .before .before .before .before .args .at + length (entriesTo (c .before .before .before .before .args .o) (c .before .before .before .before .args .body .now) k)) (le-antisymm (c .before .loop .inv .0) (c .loop-test .left)), c .before .loop .inv .2 ∙ ap (λ (k : ℕ). put (c .before .before .before .before .args .buf .now) (c .before .before .before .before .args .at) (entriesTo (c .before .before .before .before .args .o) (c .before .before .before .before .args .body .now) k)) (le-antisymm (c .before .loop .inv .0) (c .loop-test .left)))
+returns c =
+    let loop = c .before .loop in
+    let args = c .before .before .before .before .args in (
+      loop .inv .1 ∙ ap (λ (k : ℕ). args .at + length (entriesTo (args .o) (args .body .now) k))
+          (le-antisymm (loop .inv .0) (c .loop-test .left)),
+      loop .inv .2 ∙ ap (λ (k : ℕ). put (args .buf .now) (args .at) (entriesTo (args .o) (args .body .now) k))
+          (le-antisymm (loop .inv .0) (c .loop-test .left)),
+    )
 
 pub put-list-spec : {M : Type 1} → statement M
 put-list-spec =

@@ -4,7 +4,16 @@ use Rattle.listing.proofs.attributes.send_list.Statement.{statement}
 use Rattle.listing.proofs.attributes.send_list.Tie as tie
 
 returns : tie.Need-returns
-returns c = list-sent (c .before .before .before .before .before .before .before .before .before .before .before .before .before .before .before .before .before .before .before .args .limit) (c .before .before .before .before .before .before .before .before .before .before .before .before .before .before .before .before .before .before .before .args .service) (c .before .before .before .before .before .before .before .before .before .before .before .before .before .before .before .before .before .before .before .args .o) (c .before .before .before .before .before .before .before .before .before .before .before .before .before .before .before .before .before .before .before .args .body .now) _ (c .before .before .before .before .before .before .before .before .before .before .before .before .before .before .before .before .before .before .before .args .n) _ _ _ _ _ _ _ _ (c .before .before .before .before .before .before .before .before .before .before .before .before .before .before .before .before .before .before .before .pre .1) (c .before .before .before .before .before .before .before .before .before .before .before .before .before .before .before .before .before .before .before .pre .3) (c .before .before .before .before .before .before .before .before .before .before .before .before .before .before .before .before .before .before .before .pre .2) (c .before .before .before .before .before .before .before .before .before .before .before .before .before .before .before .put-header .ensures) (c .before .before .before .before .before .before .before .before .before .before .before .word-of .ensures) (c .before .before .before .before .before .before .before .before .before .before .put-u16 .ensures) (c .before .before .before .before .before .before .put-list .ensures .0) (c .before .before .before .before .before .before .put-list .ensures .1) (c .before .before .finish .ensures .0) (c .before .before .finish .ensures .1)
+returns c =
+    let back = c .before .before in let finish = back .finish in
+    let back = back .before .before .before .before in let put-list = back .put-list in
+    let back = back .before .before .before .before in let put-u16 = back .put-u16 in
+    let word-of = back .before .word-of in
+    let back = back .before .before .before .before .before in let put-header = back .put-header in
+    let start = back .before .before .before .before in
+    list-sent (start .args .limit) (start .args .service) (start .args .o) (start .args .body .now) _ (start .args .n) _
+    _ _ _ _ _ _ _ (start .pre .1) (start .pre .3) (start .pre .2) (put-header .ensures) (word-of .ensures)
+    (put-u16 .ensures) (put-list .ensures .0) (put-list .ensures .1) (finish .ensures .0) (finish .ensures .1)
 
 pub send-list-spec : {M : Type 1} → statement M
 send-list-spec =

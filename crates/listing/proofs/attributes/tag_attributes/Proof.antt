@@ -7,10 +7,20 @@ enum-told : tie.Need-enum-told
 enum-told c = search needs
 
 returns : tie.Need-returns
-returns c = tag-listed (c .before .before .before .before .before .before .before .before .before .args .limit) (c .before .before .before .before .before .before .before .before .before .args .service) (c .before .before .before .before .before .before .before .before .before .args .body .now) _ _ _ (c .before .before .before .before .before .before .before .before .before .args .tags .now) (c .before .before .before .before .before .before .before .before .before .args .id) _ _ (c .before .before .before .before .enum-told .given .1) (c .before .before .before .before .before .before .find-tag-id .ensures) (c .before .before .attribute-list .ensures)
+returns c =
+    let back = c .before .before .before .before in let enum-told = back .enum-told in
+    let find-tag-id = back .before .before .find-tag-id in
+    let args = back .before .before .before .before .before .args in
+    tag-listed (args .limit) (args .service) (args .body .now) _ _ _ (args .tags .now) (args .id) _ _
+    (enum-told .given .1) (find-tag-id .ensures) (c .before .before .attribute-list .ensures)
 
 returns-2 : tie.Need-returns-2
-returns-2 c = tag-unknown (c .before .before .before .before .before .before .before .before .before .args .limit) (c .before .before .before .before .before .before .before .before .before .args .service) (c .before .before .before .before .before .before .before .before .before .args .body .now) _ _ _ (c .before .before .before .before .before .before .before .before .before .args .tags .now) (c .before .before .before .before .before .before .before .before .before .args .id) _ (c .before .before .before .before .enum-told2 .given .1) (c .before .before .before .before .before .before .find-tag-id .ensures) (c .before .before .refuse .ensures)
+returns-2 c =
+    let back = c .before .before .before .before in let enum-told2 = back .enum-told2 in
+    let find-tag-id = back .before .before .find-tag-id in
+    let args = back .before .before .before .before .before .args in
+    tag-unknown (args .limit) (args .service) (args .body .now) _ _ _ (args .tags .now) (args .id) _
+    (enum-told2 .given .1) (find-tag-id .ensures) (c .before .before .refuse .ensures)
 
 pub tag-attributes-spec : {M : Type 1} → statement M
 tag-attributes-spec =

@@ -6,10 +6,20 @@ use Rattle.listing.proofs.entries.attribute_size.Statement.{statement}
 use Rattle.listing.proofs.entries.attribute_size.Tie as tie
 
 returns : tie.Need-returns
-returns c = (name-length (c .before .before .args .name .now) (c .before .before .args .s) (c .before .before .args .number) (c .if1 .taken), search needs)
+returns c = (
+  let args = c .before .before .args in
+      name-length (args .name .now) (args .s) (args .number) (c .if1 .taken),
+  search needs,
+)
 
 returns-2 : tie.Need-returns-2
-returns-2 c = (other-length (c .before .before .before .before .args .name .now) (c .before .before .before .before .args .s) (c .before .before .before .before .args .number) (c .before .symbol-value .result) _ (c .before .before .if1 .left) (c .before .symbol-value .ensures) (c .value-size .ensures), omega (arith, c .value-size .ensures, value-short (c .before .symbol-value .result)))
+returns-2 c =
+    let symbol-value = c .before .symbol-value in
+    let args = c .before .before .before .before .args in (
+      other-length (args .name .now) (args .s) (args .number) (symbol-value .result) _ (c .before .before .if1 .left)
+          (symbol-value .ensures) (c .value-size .ensures),
+      omega (arith, c .value-size .ensures, value-short (symbol-value .result)),
+    )
 
 pub attribute-size-spec : {M : Type 1} → statement M
 attribute-size-spec =

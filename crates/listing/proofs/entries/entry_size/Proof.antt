@@ -16,13 +16,30 @@ abbrev μ-loop : tie.MeasureT-loop
 μ-loop name s body n used₀ i₀ used i = n - i
 
 loop-holds : tie.Need-loop-holds Inv-loop μ-loop
-loop-holds c = (search needs, search needs, attributes-begin (made (c .before .before .args .name .now) (c .before .before .args .s)) (c .before .before .args .body .now) 4)
+loop-holds c = (
+  search needs,
+  search needs,
+  let args = c .before .before .args in
+      attributes-begin (made (args .name .now) (args .s)) (args .body .now) 4,
+)
 
 loop-again : tie.Need-loop-again Inv-loop μ-loop
-loop-again c = (search needs, omega (arith, c .attribute-size .ensures .1, c .before .before .before .loop .inv .1), attributes-size (made (c .before .before .before .before .before .before .args .name .now) (c .before .before .before .before .before .before .args .s)) (c .before .before .before .before .before .before .args .body .now) (c .before .before .before .loop .i) (c .before .u16-at .result) (c .before .u16-at .ensures) 4 _ _ (c .before .before .before .loop .inv .2) (c .attribute-size .ensures .0))
+loop-again c =
+    let u16-at = c .before .u16-at in
+    let loop = c .before .before .before .loop in
+    let args = c .before .before .before .before .before .before .args in (
+      search needs,
+      omega (arith, c .attribute-size .ensures .1, loop .inv .1),
+      attributes-size (made (args .name .now) (args .s)) (args .body .now) (loop .i) (u16-at .result) (u16-at .ensures)
+          4 _ _ (loop .inv .2) (c .attribute-size .ensures .0),
+    )
 
 returns : tie.Need-returns Inv-loop μ-loop
-returns c = c .before .loop .inv .2 ∙ ap (λ (k : ℕ). 4 + length (attributesTo (made (c .before .before .before .before .args .name .now) (c .before .before .before .before .args .s)) (c .before .before .before .before .args .body .now) k)) (le-antisymm (c .before .loop .inv .0) (c .loop-test .left))
+returns c =
+    let loop = c .before .loop in
+    let args = c .before .before .before .before .args in
+    loop .inv .2 ∙ ap (λ (k : ℕ). 4 + length (attributesTo (made (args .name .now) (args .s)) (args .body .now) k))
+    (le-antisymm (loop .inv .0) (c .loop-test .left))
 
 pub entry-size-spec : {M : Type 1} → statement M
 entry-size-spec =

@@ -5,19 +5,41 @@ use Rattle.listing.proofs.entries.put_attribute.Statement.{statement}
 use Rattle.listing.proofs.entries.put_attribute.Tie as tie
 
 put-u16-requires : tie.Need-put-u16-requires
-put-u16-requires c κs = omega (arith, c .before .before .before .before .before .pre, name-length (c .before .before .before .before .before .args .name .now) (c .before .before .before .before .before .args .s) (c .before .before .before .before .before .args .number) (c .before .before .if1 .taken))
+put-u16-requires c κs =
+    let pre = c .before .before .before .before .before .pre in
+    let args = c .before .before .before .before .before .args in
+    omega (arith, pre, name-length (args .name .now) (args .s) (args .number) (c .before .before .if1 .taken))
 
 copy-into-requires : tie.Need-copy-into-requires
-copy-into-requires c κs = omega (arith, c .before .before .before .put-u16 .kept .0, c .before .before .before .before .before .before .before .before .before .pre, name-length (c .before .before .before .before .before .before .before .before .before .args .name .now) (c .before .before .before .before .before .before .before .before .before .args .s) (c .before .before .before .before .before .before .before .before .before .args .number) (c .before .before .before .before .before .before .if1 .taken))
+copy-into-requires c κs =
+    let put-u16 = c .before .before .before .put-u16 in
+    let if1 = c .before .before .before .before .before .before .if1 in
+    let pre = c .before .before .before .before .before .before .before .before .before .pre in
+    let args = c .before .before .before .before .before .before .before .before .before .args in
+    omega (arith, put-u16 .kept .0, pre, name-length (args .name .now) (args .s) (args .number) (if1 .taken))
 
 returns : tie.Need-returns
-returns c = name-written (c .before .before .before .before .before .before .before .before .before .before .before .before .args .name .now) (c .before .before .before .before .before .before .before .before .before .before .before .before .args .s) (c .before .before .before .before .before .before .before .before .before .before .before .before .args .number) _ _ _ _ _ (c .before .before .before .before .before .before .before .before .before .if1 .taken) (c .before .before .before .before .before .before .before .word-of .ensures) (c .before .before .before .before .before .before .put-u16 .ensures) (c .before .before .copy-into .ensures) (c .before .before .before .before .before .before .before .before .before .before .before .before .pre)
+returns c =
+    let back = c .before .before .before .before .before .before in let put-u16 = back .put-u16 in
+    let word-of = back .before .word-of in
+    let if1 = back .before .before .before .if1 in
+    let start = back .before .before .before .before .before .before in
+    name-written (start .args .name .now) (start .args .s) (start .args .number) _ _ _ _ _ (if1 .taken)
+    (word-of .ensures) (put-u16 .ensures) (c .before .before .copy-into .ensures) (start .pre)
 
 put-value-requires : tie.Need-put-value-requires
-put-value-requires c κs = other-room (c .before .before .before .before .before .args .name .now) (c .before .before .before .before .before .args .s) (c .before .before .before .before .before .args .number) (c .symbol-value .result) (c .before .before .before .before .before .args .at) _ (c .before .before .if1 .left) (c .symbol-value .ensures) (c .before .before .before .before .before .pre)
+put-value-requires c κs =
+    let start = c .before .before .before .before .before in
+    other-room (start .args .name .now) (start .args .s) (start .args .number) (c .symbol-value .result)
+    (start .args .at) _ (c .before .before .if1 .left) (c .symbol-value .ensures) (start .pre)
 
 returns-2 : tie.Need-returns-2
-returns-2 c = other-written (c .before .before .before .before .before .before .before .before .args .name .now) (c .before .before .before .before .before .before .before .before .args .s) (c .before .before .before .before .before .before .before .before .args .number) (c .before .before .before .symbol-value .result) _ _ _ _ (c .before .before .before .before .before .if1 .left) (c .before .before .before .symbol-value .ensures) (c .before .before .put-value .ensures)
+returns-2 c =
+    let back = c .before .before .before in let symbol-value = back .symbol-value in
+    let if1 = back .before .before .if1 in
+    let args = back .before .before .before .before .before .args in
+    other-written (args .name .now) (args .s) (args .number) (symbol-value .result) _ _ _ _ (if1 .left)
+    (symbol-value .ensures) (c .before .before .put-value .ensures)
 
 pub put-attribute-spec : {M : Type 1} → statement M
 put-attribute-spec =

@@ -18,13 +18,30 @@ loop-holds : tie.Need-loop-holds Inv-loop μ-loop
 loop-holds c = (search needs, known-none isListed (c .before .args .body .now))
 
 loop-again : tie.Need-loop-again Inv-loop μ-loop
-loop-again c = (search needs, known-more isListed (c .before .before .before .before .before .before .args .body .now) (c .before .before .before .before .loop .i) (c .before .before .u16-at .result) _ (c .before .before .u16-at .ensures) (c .before .before .before .before .loop .inv .1) (c .before .is-listed .ensures) (c .if1 .taken))
+loop-again c = (
+  search needs,
+  let back = c .before .before in let u16-at = back .u16-at in
+      let loop = back .before .before .loop in
+      let args = back .before .before .before .before .args in
+      known-more isListed (args .body .now) (loop .i) (u16-at .result) _ (u16-at .ensures) (loop .inv .1)
+      (c .before .is-listed .ensures) (c .if1 .taken),
+)
 
 returns : tie.Need-returns Inv-loop μ-loop
-returns c = known-not isListed (c .before .before .before .before .before .before .args .body .now) (c .before .before .before .before .loop .i) (c .before .before .before .before .before .before .args .n) (c .before .before .u16-at .result) _ (c .before .before .u16-at .ensures) (c .before .before .before .before .loop .inv .1) (c .before .is-listed .ensures) (c .if1 .left) (c .before .before .before .loop-test .taken)
+returns c =
+    let back = c .before .before in let u16-at = back .u16-at in
+    let loop-test = back .before .loop-test in
+    let loop = back .before .before .loop in
+    let args = back .before .before .before .before .args in
+    known-not isListed (args .body .now) (loop .i) (args .n) (u16-at .result) _ (u16-at .ensures) (loop .inv .1)
+    (c .before .is-listed .ensures) (c .if1 .left) (loop-test .taken)
 
 returns-2 : tie.Need-returns-2 Inv-loop μ-loop
-returns-2 c = sym (ap (λ (k : ℕ). known isListed (c .before .before .before .args .body .now) k) (le-antisymm (c .loop-test .left) (c .before .loop .inv .0)) ∙ c .before .loop .inv .1)
+returns-2 c =
+    let loop = c .before .loop in
+    let args = c .before .before .before .args in
+    sym (ap (λ (k : ℕ). known isListed (args .body .now) k) (le-antisymm (c .loop-test .left) (loop .inv .0)) ∙
+    loop .inv .1)
 
 pub all-listed-spec : {M : Type 1} → statement M
 all-listed-spec =

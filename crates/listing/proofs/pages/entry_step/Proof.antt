@@ -10,16 +10,36 @@ use Rattle.listing.proofs.pages.entry_step.Statement.{statement}
 use Rattle.listing.proofs.pages.entry_step.Tie as tie
 
 returns : tie.Need-returns
-returns c = (left-out (omega (arith, c .before .entry-size .ensures, bytes-long (made (c .before .before .before .before .before .args .name .now) (c .before .before .before .before .before .args .s)) (numbers (c .before .before .before .before .before .args .n) (drop 2 (c .before .before .before .before .before .args .body .now))) (c .before .before .before .before .before .args .s .id), c .if1 .taken)) refl, tt)
+returns c =
+    let args = c .before .before .before .before .before .args in (
+      left-out (omega (
+        arith,
+        c .before .entry-size .ensures,
+        bytes-long (made (args .name .now) (args .s)) (numbers (args .n) (drop 2 (args .body .now))) (args .s .id),
+        c .if1 .taken,
+      )) refl,
+      tt,
+    )
 
 returns-2 : tie.Need-returns-2
-returns-2 c = let d = made (c .before .before .before .before .before .before .before .before .before .before .before .before .before .before .args .name .now) (c .before .before .before .before .before .before .before .before .before .before .before .before .before .before .args .s) in
-    let l = numbers (c .before .before .before .before .before .before .before .before .before .before .before .before .before .before .args .n) (drop 2 (c .before .before .before .before .before .before .before .before .before .before .before .before .before .before .args .body .now)) in
-    let long = bytes-long d l (c .before .before .before .before .before .before .before .before .before .before .before .before .before .before .args .s .id) in
-    let f = c .before .before .before .before .before .before .before .before .before .if1 .left in
-    let u : c .before .before .before .put-attributes .result ≡ c .before .before .before .before .before .before .before .before .before .before .before .before .before .before .args .used + length (bytes d l (c .before .before .before .before .before .before .before .before .before .before .before .before .before .before .args .s .id)) = omega (arith, c .before .before .before .put-attributes .ensures .0, long) in
-    let v : c .before .before .before .put-attributes .result ≤ c .before .before .before .before .before .before .before .before .before .before .before .before .before .before .args .limit = omega (arith, u, long, c .before .before .before .before .before .before .before .before .before .before .entry-size .ensures, f) in
-    (put-in (c .after .ensures) u v (bytes-put d l _ _ _ _ _ (c .before .before .before .before .before .before .before .put-u32 .ensures) (c .before .before .before .put-attributes .ensures .1) (omega (arith, c .before .before .before .before .before .before .before .before .before .before .entry-size .ensures, f))), (omega (arith, u, long), v))
+returns-2 c =
+    let put-attributes = c .before .before .before .put-attributes in
+    let put-u32 = c .before .before .before .before .before .before .before .put-u32 in
+    let if1 = c .before .before .before .before .before .before .before .before .before .if1 in
+    let entry-size = c .before .before .before .before .before .before .before .before .before .before .entry-size in
+    let args = c .before .before .before .before .before .before .before .before .before .before .before .before .before
+    .before .args in
+    let d = made (args .name .now) (args .s) in
+    let l = numbers (args .n) (drop 2 (args .body .now)) in
+    let long = bytes-long d l (args .s .id) in
+    let f = if1 .left in
+    let u : put-attributes .result ≡ args .used + length (bytes d l (args .s .id)) = omega
+    (arith, put-attributes .ensures .0, long) in
+    let v : put-attributes .result ≤ args .limit = omega (arith, u, long, entry-size .ensures, f) in (
+      put-in (c .after .ensures) u v
+          (bytes-put d l _ _ _ _ _ (put-u32 .ensures) (put-attributes .ensures .1) (omega (arith, entry-size .ensures, f))),
+      (omega (arith, u, long), v),
+    )
 
 pub entry-step-spec : {M : Type 1} → statement M
 entry-step-spec =

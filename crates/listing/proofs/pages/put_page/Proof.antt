@@ -9,7 +9,9 @@ use Rattle.listing.proofs.pages.put_page.Statement.{statement}
 use Rattle.listing.proofs.pages.put_page.Tie as tie
 
 abbrev Inv-loop : tie.InvT-loop
-Inv-loop structures tags others names tag-names scope start body n service limit buf₀ end used₀ bound₀ hint₀ buf used bound hint = (4 ≤ used) × (used ≤ end) × (length buf ≡ length buf₀) × EachValid structures tags others names tag-names (λ t. Filled t scope (numbers n (drop 2 body)) start service limit end buf₀ used bound buf)
+Inv-loop structures tags others names tag-names scope start body n service limit buf₀ end used₀ bound₀ hint₀ buf used bound hint =
+    (4 ≤ used) × (used ≤ end) × (length buf ≡ length buf₀) × EachValid structures tags others names tag-names
+    (λ t. Filled t scope (numbers n (drop 2 body)) start service limit end buf₀ used bound buf)
 
 abbrev μ-loop : tie.MeasureT-loop
 μ-loop structures tags others names tag-names scope start body n service limit buf₀ end used₀ bound₀ hint₀ buf used bound hint = end - used
@@ -18,19 +20,46 @@ loop-holds : tie.Need-loop-holds Inv-loop μ-loop
 loop-holds c = (search needs, search needs, refl, λ m p z y v. filled-none _ _ _ _ _ _ _ _ (c .end-of .ensures))
 
 loop-less : tie.Need-loop-less Inv-loop μ-loop
-loop-less c = let f = further-more _ _ _ (c .before .u .given .1) (c .before .before .before .before .before .page-step .ensures .1) in search needs
+loop-less c =
+    let f = (let page-step = c .before .before .before .before .before .page-step in
+    further-more _ _ _ (c .before .u .given .1) (page-step .ensures .1)) in
+    search needs
 
 loop-again : tie.Need-loop-again Inv-loop μ-loop
-loop-again c = let f = further-more _ _ _ (c .before .u .given .1) (c .before .before .before .before .before .page-step .ensures .1) in (search needs, search needs, search needs, λ m p z y v. entry-added _ _ _ _ _ _ _ _ _ _ _ _ _ (c .before .before .before .before .before .before .before .loop .inv .3 m p z y v) (c .before .before .before .before .before .page-step .ensures .0 m p z y v) (c .before .u .given .1) (f .0) (search needs))
+loop-again c =
+    let u = c .before .u in
+    let page-step = c .before .before .before .before .before .page-step in
+    let loop = c .before .before .before .before .before .before .before .loop in
+    let f = further-more _ _ _ (u .given .1) (page-step .ensures .1) in (
+      search needs,
+      search needs,
+      search needs,
+      λ m p z y v. entry-added _ _ _ _ _ _ _ _ _ _ _ _ _ (loop .inv .3 m p z y v) (page-step .ensures .0 m p z y v)
+          (u .given .1) (f .0) (search needs),
+    )
 
 enum-told : tie.Need-enum-told Inv-loop μ-loop
 enum-told c = search needs
 
 returns : tie.Need-returns Inv-loop μ-loop
-returns c = λ m p z y v. page-stopped _ _ _ _ _ _ _ _ _ _ _ _ _ (c .before .before .before .before .before .before .before .before .before .before .loop .inv .3 m p z y v) (c .before .before .before .before .before .before .before .before .page-step .ensures .0 m p z y v) (c .before .before .before .before .enum-told .given .1) (c .before .before .before .before .before .before .before .before .before .before .loop .inv .1) (c .before .before .before .before .before .before .before .before .before .before .before .end-of .ensures) (c .before .before .before .before .before .before .before .before .before .before .before .before .before .before .before .before .pre .3) (c .before .before .stop .ensures)
+returns c =
+    let back = c .before .before .before .before in let enum-told = back .enum-told in
+    let back = back .before .before .before .before in let page-step = back .page-step in
+    let back = back .before .before in let loop = back .loop in
+    let end-of = back .before .end-of in
+    let pre = back .before .before .before .before .before .before .pre in
+    λ m p z y v. page-stopped _ _ _ _ _ _ _ _ _ _ _ _ _ (loop .inv .3 m p z y v) (page-step .ensures .0 m p z y v)
+    (enum-told .given .1) (loop .inv .1) (end-of .ensures) (pre .3) (c .before .before .stop .ensures)
 
 returns-2 : tie.Need-returns-2 Inv-loop μ-loop
-returns-2 c = λ m p z y v. page-ended _ _ _ _ _ _ _ _ _ _ _ _ _ (c .before .before .before .before .before .before .before .before .before .before .loop .inv .3 m p z y v) (c .before .before .before .before .before .before .before .before .page-step .ensures .0 m p z y v) (c .before .before .before .before .enum-told2 .given .1) (c .before .before .before .before .before .before .before .before .before .before .loop .inv .1) (c .before .before .before .before .before .before .before .before .before .before .before .end-of .ensures) (c .before .before .before .before .before .before .before .before .before .before .before .before .before .before .before .before .pre .3) (c .before .before .close .ensures)
+returns-2 c =
+    let back = c .before .before .before .before in let enum-told2 = back .enum-told2 in
+    let back = back .before .before .before .before in let page-step = back .page-step in
+    let back = back .before .before in let loop = back .loop in
+    let end-of = back .before .end-of in
+    let pre = back .before .before .before .before .before .before .pre in
+    λ m p z y v. page-ended _ _ _ _ _ _ _ _ _ _ _ _ _ (loop .inv .3 m p z y v) (page-step .ensures .0 m p z y v)
+    (enum-told2 .given .1) (loop .inv .1) (end-of .ensures) (pre .3) (c .before .before .close .ensures)
 
 pub put-page-spec : {M : Type 1} → statement M
 put-page-spec =

@@ -4,10 +4,14 @@ use Rattle.listing.proofs.pages.stop.Statement.{statement}
 use Rattle.listing.proofs.pages.stop.Tie as tie
 
 returns : tie.Need-returns
-returns c = rw (eq-eqb _ 4 (c .before .before .before .before .if1 .taken)) (c .before .before .fail .ensures)
+returns c =
+    let if1 = c .before .before .before .before .if1 in
+    rw (eq-eqb _ 4 (if1 .taken)) (c .before .before .fail .ensures)
 
 returns-2 : tie.Need-returns-2
-returns-2 c = rw (ne-eqb _ 4 (c .before .before .before .before .if1 .left)) (c .before .before .close .ensures)
+returns-2 c =
+    let if1 = c .before .before .before .before .if1 in
+    rw (ne-eqb _ 4 (if1 .left)) (c .before .before .close .ensures)
 
 pub stop-spec : {M : Type 1} → statement M
 stop-spec =

@@ -4,10 +4,16 @@ use Rattle.listing.proofs.replies.refuse.Statement.{statement}
 use Rattle.listing.proofs.replies.refuse.Tie as tie
 
 returns : tie.Need-returns
-returns c = refused-large _ _ _ _ _ _ (c .before .before .before .before .before .before .pre .1) (c .before .before .before .before .if1 .taken) (c .before .before .fail .ensures)
+returns c =
+    let back = c .before .before .before .before in let if1 = back .if1 in
+    let pre = back .before .before .pre in
+    refused-large _ _ _ _ _ _ (pre .1) (if1 .taken) (c .before .before .fail .ensures)
 
 returns-2 : tie.Need-returns-2
-returns-2 c = refused-well _ _ _ _ _ _ (c .before .before .before .before .before .before .pre .1) (c .before .before .before .before .if1 .left) (c .before .before .fail2 .ensures)
+returns-2 c =
+    let back = c .before .before .before .before in let if1 = back .if1 in
+    let pre = back .before .before .pre in
+    refused-well _ _ _ _ _ _ (pre .1) (if1 .left) (c .before .before .fail2 .ensures)
 
 pub refuse-spec : {M : Type 1} → statement M
 refuse-spec =

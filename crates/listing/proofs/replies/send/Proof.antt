@@ -4,7 +4,13 @@ use Rattle.listing.proofs.replies.send.Statement.{statement}
 use Rattle.listing.proofs.replies.send.Tie as tie
 
 returns : tie.Need-returns
-returns c = sent _ _ _ _ _ _ _ _ _ _ (c .before .before .before .before .before .before .before .before .before .before .before .before .before .before .pre .2) (c .before .before .before .before .before .before .before .before .before .before .put-header .ensures) (c .before .before .before .before .before .before .copy-into .ensures) (c .before .before .finish .ensures .0) (c .before .before .finish .ensures .1) (c .before .before .before .before .before .before .before .before .before .before .before .before .before .before .pre .0) (c .before .before .before .before .before .before .before .before .before .before .before .before .before .before .pre .1)
+returns c =
+    let back = c .before .before in let finish = back .finish in
+    let back = back .before .before .before .before in let copy-into = back .copy-into in
+    let back = back .before .before .before .before in let put-header = back .put-header in
+    let pre = back .before .before .before .before .pre in
+    sent _ _ _ _ _ _ _ _ _ _ (pre .2) (put-header .ensures) (copy-into .ensures) (finish .ensures .0)
+    (finish .ensures .1) (pre .0) (pre .1)
 
 pub send-spec : {M : Type 1} → statement M
 send-spec =

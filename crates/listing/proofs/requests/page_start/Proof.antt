@@ -11,7 +11,17 @@ symbol-name-requires : tie.Need-symbol-name-requires
 symbol-name-requires c κs = search page-starts
 
 scope-of-requires : tie.Need-scope-of-requires
-scope-of-requires c κs = omega (arith, program-inside (c .before .before .before .before .before .before .before .before .before .before .before .before .args .programs .now) (c .before .before .before .before .before .before .before .before .before .before .before .before .args .names .now) (c .before .before .before .before .symbol-name .result .now) _ _ (c .before .k .given .1) (c .before .before .before .program-of .ensures), c .before .before .before .before .before .before .before .before .before .before .before .before .pre .1)
+scope-of-requires c κs =
+    let program-of = c .before .before .before .program-of in
+    let symbol-name = c .before .before .before .before .symbol-name in
+    let args = c .before .before .before .before .before .before .before .before .before .before .before .before .args in
+    let pre = c .before .before .before .before .before .before .before .before .before .before .before .before .pre in
+    omega (
+      arith,
+      program-inside (args .programs .now) (args .names .now) (symbol-name .result .now) _ _ (c .before .k .given .1)
+          (program-of .ensures),
+      pre .1,
+    )
 
 start-in-requires-2 : tie.Need-start-in-requires-2
 start-in-requires-2 c κs = search page-starts

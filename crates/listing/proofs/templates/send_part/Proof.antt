@@ -5,13 +5,36 @@ use Rattle.listing.proofs.templates.send_part.Statement.{statement}
 use Rattle.listing.proofs.templates.send_part.Tie as tie
 
 returns : tie.Need-returns
-returns c = sent-none _ _ _ _ _ _ _ _ _ (c .before .before .before .before .before .before .space-of .ensures) _ (c .before .before .before .before .before .nothing-fits .ensures) (c .before .before .before .before .if1 .taken) (c .before .before .fail .ensures)
+returns c =
+    let back = c .before .before .before .before in let if1 = back .if1 in
+    let nothing-fits = back .before .nothing-fits in
+    let space-of = back .before .before .space-of in
+    sent-none _ _ _ _ _ _ _ _ _ (space-of .ensures) _ (nothing-fits .ensures) (if1 .taken)
+    (c .before .before .fail .ensures)
 
 send-requires : tie.Need-send-requires
-send-requires c κs = (part-fits (c .before .before .before .before .before .before .before .before .before .before .args .templates .now) _ (c .before .before .before .before .before .before .before .before .before .before .args .from) _ _ _ _ (c .before .before .before .before .before .before .space-of .ensures) (c .before .before .before .smaller .ensures) (c .before .before .chunk .ensures), search needs, no-word (leb (c .before .before .before .before .before .before .before .before .before .before .args .due) (c .before .before .before .before .before .before .space-of .result)) (c .before .part-status .ensures))
+send-requires c κs = (
+  let back = c .before .before .before in let smaller = back .smaller in
+      let space-of = back .before .before .before .space-of in
+      let args = back .before .before .before .before .before .before .before .args in
+      part-fits (args .templates .now) _ (args .from) _ _ _ _ (space-of .ensures) (smaller .ensures)
+      (c .before .before .chunk .ensures),
+  search needs,
+  let back = c .before .before .before .before .before .before in let space-of = back .space-of in
+      let args = back .before .before .before .before .args in
+      no-word (leb (args .due) (space-of .result)) (c .before .part-status .ensures),
+)
 
 returns-2 : tie.Need-returns-2
-returns-2 c = sent-part _ _ _ _ _ _ _ _ _ (c .before .before .before .before .before .before .before .before .before .space-of .ensures) _ _ _ _ (c .before .before .before .before .before .before .before .before .nothing-fits .ensures) (c .before .before .before .before .before .before .before .if1 .left) (c .before .before .before .before .before .before .smaller .ensures) (c .before .before .before .before .part-status .ensures) (c .before .before .before .before .before .chunk .ensures) (c .before .before .send .ensures)
+returns-2 c =
+    let back = c .before .before .before .before in let part-status = back .part-status in
+    let back = back .before in let chunk = back .chunk in
+    let smaller = back .before .smaller in
+    let back = back .before .before in let if1 = back .if1 in
+    let nothing-fits = back .before .nothing-fits in
+    let space-of = back .before .before .space-of in
+    sent-part _ _ _ _ _ _ _ _ _ (space-of .ensures) _ _ _ _ (nothing-fits .ensures) (if1 .left) (smaller .ensures)
+    (part-status .ensures) (chunk .ensures) (c .before .before .send .ensures)
 
 pub send-part-spec : {M : Type 1} → statement M
 send-part-spec =

@@ -4,13 +4,31 @@ use Rattle.listing.proofs.templates.template_reply.Statement.{statement
 use Rattle.listing.proofs.templates.template_reply.Tie as tie
 
 returns : tie.Need-returns
-returns c = asked-short _ _ _ _ _ _ _ _ _ (c .before .before .before .before .if1 .taken) (c .before .before .fail .ensures)
+returns c =
+    let if1 = c .before .before .before .before .if1 in
+    asked-short _ _ _ _ _ _ _ _ _ (if1 .taken) (c .before .before .fail .ensures)
 
 returns-2 : tie.Need-returns-2
-returns-2 c = asked-beyond _ _ _ _ _ _ _ _ _ _ (c .before .before .before .before .before .before .if1 .left) (c .before .before .before .before .before .u32-at .ensures) (c .before .before .before .before .if2 .taken) (c .before .before .fail2 .ensures)
+returns-2 c =
+    let back = c .before .before .before .before in let if2 = back .if2 in
+    let u32-at = back .before .u32-at in
+    let if1 = back .before .before .if1 in
+    asked-beyond _ _ _ _ _ _ _ _ _ _ (if1 .left) (u32-at .ensures) (if2 .taken) (c .before .before .fail2 .ensures)
 
 returns-3 : tie.Need-returns-3
-returns-3 c = asked-well _ _ _ _ _ _ _ _ _ _ (c .before .before .before .before .before .before .before .before .before .before .before .before .if1 .left) (c .before .before .before .before .before .before .before .before .before .before .before .u32-at .ensures) _ _ _ _ _ _ (c .before .before .before .before .before .before .before .before .before .before .if2 .left) (c .before .before .before .before .before .before .before .before .before .u16-at .ensures) (c .before .before .before .before .before .before .before .before .wide16 .ensures) (c .before .before .before .before .before .before .before .wide .ensures) (c .before .before .before .before .before .before .wide2 .ensures) (c .before .before .before .before .before .wide3 .ensures) (c .before .before .before .before .smaller .ensures) (c .before .before .send-part .ensures)
+returns-3 c =
+    let back = c .before .before .before .before in let smaller = back .smaller in
+    let back = back .before in let wide3 = back .wide3 in
+    let back = back .before in let wide2 = back .wide2 in
+    let back = back .before in let wide = back .wide in
+    let back = back .before in let wide16 = back .wide16 in
+    let u16-at = back .before .u16-at in
+    let back = back .before .before in let if2 = back .if2 in
+    let u32-at = back .before .u32-at in
+    let if1 = back .before .before .if1 in
+    asked-well _ _ _ _ _ _ _ _ _ _ (if1 .left) (u32-at .ensures) _ _ _ _ _ _ (if2 .left) (u16-at .ensures)
+    (wide16 .ensures) (wide .ensures) (wide2 .ensures) (wide3 .ensures) (smaller .ensures)
+    (c .before .before .send-part .ensures)
 
 pub template-reply-spec : {M : Type 1} → statement M
 template-reply-spec =

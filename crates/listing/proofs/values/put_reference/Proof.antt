@@ -6,7 +6,9 @@ use Rattle.listing.proofs.values.put_reference.Statement.{statement}
 use Rattle.listing.proofs.values.put_reference.Tie as tie
 
 returns : tie.Need-returns
-returns c = put-then _ _ _ _ _ _ _ (c .before .before .before .before .before .before .copy-into .ensures) (c .before .before .put-u16 .ensures) refl (omega arith)
+returns c =
+    let copy-into = c .before .before .before .before .before .before .copy-into in
+    put-then _ _ _ _ _ _ _ (copy-into .ensures) (c .before .before .put-u16 .ensures) refl (omega arith)
 
 pub put-reference-spec : {M : Type 1} → statement M
 put-reference-spec =

@@ -6,7 +6,11 @@ use Rattle.listing.proofs.values.put_three.Statement.{statement}
 use Rattle.listing.proofs.values.put_three.Tie as tie
 
 returns : tie.Need-returns
-returns c = put-then _ _ _ _ _ _ _ (put-then _ _ _ _ _ _ _ (c .before .before .before .before .before .before .before .before .before .before .put-u32 .ensures) (c .before .before .before .before .before .before .put-u322 .ensures) refl (omega arith)) (c .before .before .put-u323 .ensures) refl (omega arith)
+returns c =
+    let put-u322 = c .before .before .before .before .before .before .put-u322 in
+    let put-u32 = c .before .before .before .before .before .before .before .before .before .before .put-u32 in
+    put-then _ _ _ _ _ _ _ (put-then _ _ _ _ _ _ _ (put-u32 .ensures) (put-u322 .ensures) refl (omega arith))
+    (c .before .before .put-u323 .ensures) refl (omega arith)
 
 pub put-three-spec : {M : Type 1} → statement M
 put-three-spec =

@@ -24,7 +24,9 @@ room-of-requires c κs = search needs
 
 -- src/entry.rt:81:9
 returns-3 : tie.Need-returns-3
-returns-3 c = enters-short _ _ _ _ _ _ (c .before .before .before .if1 .left) (c .before .before .if2 .left) _ (c .before .room-of .ensures) (c .if3 .taken)
+returns-3 c =
+    let if1 = c .before .before .before .if1 in
+    enters-short _ _ _ _ _ _ (if1 .left) (c .before .before .if2 .left) _ (c .before .room-of .ensures) (c .if3 .taken)
 
 -- src/entry.rt:83:8
 valid-requires : tie.Need-valid-requires
@@ -32,7 +34,17 @@ valid-requires c κs = search needs
 
 -- src/entry.rt:86:31
 answer-requires : tie.Need-answer-requires
-answer-requires c κs = (c .before .before .before .before .before .before .before .before .if1 .left, c .before .before .before .before .before .before .before .if2 .left, omega (arith, c .before .before .before .before .before .before .room-of .ensures, c .before .before .before .before .before .if3 .left), sym (c .before .before .before .valid .ensures) ∙ c .before .before .if4 .taken)
+answer-requires c κs =
+    let valid = c .before .before .before .valid in
+    let if3 = c .before .before .before .before .before .if3 in
+    let room-of = c .before .before .before .before .before .before .room-of in
+    let if2 = c .before .before .before .before .before .before .before .if2 in
+    let if1 = c .before .before .before .before .before .before .before .before .if1 in (
+      if1 .left,
+      if2 .left,
+      omega (arith, room-of .ensures, if3 .left),
+      sym (valid .ensures) ∙ c .before .before .if4 .taken,
+    )
 
 -- src/entry.rt:86:9
 same-length : tie.Need-same-length
@@ -44,7 +56,16 @@ same-length-2 c = search needs
 
 -- src/entry.rt:86:9
 returns-4 : tie.Need-returns-4
-returns-4 c = enters-well _ _ _ _ _ _ (c .before .before .before .before .before .before .before .before .before .before .before .before .before .if1 .left) (c .before .before .before .before .before .before .before .before .before .before .before .before .if2 .left) _ (c .before .before .before .before .before .before .before .before .before .before .before .room-of .ensures) (c .before .before .before .before .before .before .before .before .before .before .if3 .left) _ (c .before .before .before .before .before .before .before .before .valid .ensures) (c .before .before .before .before .before .before .before .if4 .taken) _ _ _ (c .before .before .before .before .answer .ensures)
+returns-4 c =
+    let back = c .before .before .before .before in let answer = back .answer in
+    let back = back .before .before .before in let if4 = back .if4 in
+    let back = back .before in let valid = back .valid in
+    let back = back .before .before in let if3 = back .if3 in
+    let room-of = back .before .room-of in
+    let if2 = back .before .before .if2 in
+    let if1 = back .before .before .before .if1 in
+    enters-well _ _ _ _ _ _ (if1 .left) (if2 .left) _ (room-of .ensures) (if3 .left) _ (valid .ensures) (if4 .taken) _ _
+    _ (answer .ensures)
 
 -- src/entry.rt:57:1
 same-length-3 : tie.Need-same-length-3
@@ -52,7 +73,13 @@ same-length-3 c = search needs
 
 -- src/entry.rt:57:1
 returns-5 : tie.Need-returns-5
-returns-5 c = enters-invalid _ _ _ _ _ _ (c .before .before .before .before .before .before .if1 .left) (c .before .before .before .before .before .if2 .left) _ (c .before .before .before .before .room-of .ensures) (c .before .before .before .if3 .left) _ (c .before .valid .ensures) (c .if4 .left)
+returns-5 c =
+    let back = c .before .before .before in let if3 = back .if3 in
+    let room-of = back .before .room-of in
+    let if2 = back .before .before .if2 in
+    let if1 = back .before .before .before .if1 in
+    enters-invalid _ _ _ _ _ _ (if1 .left) (if2 .left) _ (room-of .ensures) (if3 .left) _ (c .before .valid .ensures)
+    (c .if4 .left)
 
 pub message-spec : {M : Type 1} → statement M
 message-spec =

@@ -4,10 +4,21 @@ use Rattle.logix.proofs.parts.close.Statement.{statement}
 use Rattle.logix.proofs.parts.close.Tie as tie
 
 returns : tie.Need-returns
-returns c = closed-late _ _ _ _ _ _ _ (c .before .before .before .before .if1 .taken) (c .before .before .fail .ensures)
+returns c =
+    let if1 = c .before .before .before .before .if1 in
+    closed-late _ _ _ _ _ _ _ (if1 .taken) (c .before .before .fail .ensures)
 
 returns-2 : tie.Need-returns-2
-returns-2 c = closed _ _ _ _ _ _ _ _ _ _ _ _ (c .before .before .before .before .before .before .before .before .before .before .before .before .before .before .if1 .left) (c .before .before .before .before .before .before .before .before .before .before .before .before .before .before .before .before .pre .0) (c .before .before .before .before .before .before .before .before .before .before .before .before .before .before .before .before .pre .1) (c .before .before .before .before .before .before .before .before .before .before .before .before .outcome .ensures) (c .before .before .before .before .before .before .before .before .before .before .before .put-header .ensures) (c .before .before .before .before .before .before .before .word-of .ensures) (c .before .before .before .before .before .before .put-u16 .ensures) (c .before .before .finish .ensures .0) (c .before .before .finish .ensures .1)
+returns-2 c =
+    let back = c .before .before in let finish = back .finish in
+    let back = back .before .before .before .before in let put-u16 = back .put-u16 in
+    let back = back .before in let word-of = back .word-of in
+    let back = back .before .before .before .before in let put-header = back .put-header in
+    let outcome = back .before .outcome in
+    let if1 = back .before .before .before .if1 in
+    let pre = back .before .before .before .before .before .pre in
+    closed _ _ _ _ _ _ _ _ _ _ _ _ (if1 .left) (pre .0) (pre .1) (outcome .ensures) (put-header .ensures)
+    (word-of .ensures) (put-u16 .ensures) (finish .ensures .0) (finish .ensures .1)
 
 pub close-spec : {M : Type 1} → statement M
 close-spec =

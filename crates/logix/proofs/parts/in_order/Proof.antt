@@ -16,13 +16,23 @@ loop-holds : tie.Need-loop-holds Inv-loop μ-loop
 loop-holds c = (omega arith, refl)
 
 returns : tie.Need-returns Inv-loop μ-loop
-returns c = order-off _ _ _ _ (c .before .before .before .loop .inv .1) _ (c .before .before .loop-test .taken) (c .before .mark .ensures) (c .if1 .taken)
+returns c =
+    let loop = c .before .before .before .loop in
+    order-off _ _ _ _ (loop .inv .1) _ (c .before .before .loop-test .taken) (c .before .mark .ensures) (c .if1 .taken)
 
 loop-again : tie.Need-loop-again Inv-loop μ-loop
-loop-again c = (search needs, order-on _ _ _ _ (c .before .before .before .loop .inv .1) _ _ (c .before .before .loop-test .taken) (c .before .mark .ensures) (c .if1 .left) refl)
+loop-again c = (
+  search needs,
+  let loop = c .before .before .before .loop in
+      order-on _ _ _ _ (loop .inv .1) _ _ (c .before .before .loop-test .taken) (c .before .mark .ensures)
+      (c .if1 .left) refl,
+)
 
 returns-2 : tie.Need-returns-2 Inv-loop μ-loop
-returns-2 c = order-end (c .before .before .before .args .body .now) (c .before .before .before .args .count) (c .before .loop .at) (c .before .loop .i) (c .before .loop .inv .1) (c .loop-test .left)
+returns-2 c =
+    let loop = c .before .loop in
+    let args = c .before .before .before .args in
+    order-end (args .body .now) (args .count) (loop .at) (loop .i) (loop .inv .1) (c .loop-test .left)
 
 pub in-order-spec : {M : Type 1} → statement M
 in-order-spec =

@@ -11,7 +11,9 @@ use Rattle.model.proofs.lookup.find_member.Statement.{statement}
 use Rattle.model.proofs.lookup.find_member.Tie as tie
 
 abbrev Inv-loop : tie.InvT-loop
-Inv-loop members names name i₀ i = (i ≤ length members) × (scan (memberIs names name) At Nothing i (drop i members) ≡ scan (memberIs names name) At Nothing 0 members)
+Inv-loop members names name i₀ i =
+    (i ≤ length members) ×
+    (scan (memberIs names name) At Nothing i (drop i members) ≡ scan (memberIs names name) At Nothing 0 members)
 
 abbrev μ-loop : tie.MeasureT-loop
 μ-loop members names name i₀ i = length members - i

@@ -11,7 +11,9 @@ use Rattle.model.proofs.lookup.find_program.Statement.{statement}
 use Rattle.model.proofs.lookup.find_program.Tie as tie
 
 abbrev Inv-loop : tie.InvT-loop
-Inv-loop programs names name i₀ i = (i ≤ length programs) × (scan (programIs names name) At Nothing i (drop i programs) ≡ scan (programIs names name) At Nothing 0 programs)
+Inv-loop programs names name i₀ i =
+    (i ≤ length programs) ×
+    (scan (programIs names name) At Nothing i (drop i programs) ≡ scan (programIs names name) At Nothing 0 programs)
 
 abbrev μ-loop : tie.MeasureT-loop
 μ-loop programs names name i₀ i = length programs - i

@@ -11,7 +11,9 @@ use Rattle.model.proofs.lookup.find_tag.Statement.{statement}
 use Rattle.model.proofs.lookup.find_tag.Tie as tie
 
 abbrev Inv-loop : tie.InvT-loop
-Inv-loop tags tag-names scope name i₀ i = (i ≤ length tags) × (scan (tagIs tag-names scope name) At Nothing i (drop i tags) ≡ scan (tagIs tag-names scope name) At Nothing 0 tags)
+Inv-loop tags tag-names scope name i₀ i =
+    (i ≤ length tags) ×
+    (scan (tagIs tag-names scope name) At Nothing i (drop i tags) ≡ scan (tagIs tag-names scope name) At Nothing 0 tags)
 
 abbrev μ-loop : tie.MeasureT-loop
 μ-loop tags tag-names scope name i₀ i = length tags - i

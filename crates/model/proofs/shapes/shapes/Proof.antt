@@ -8,8 +8,11 @@ use Rattle.model.proofs.shapes.shapes.Tie as tie
 
 returns : tie.Need-returns
 unfolding shapesOf
-returns c = let row = now (c .before .before .before .before .before .before .before .args .row) in
-    let first : c .before .listed .result ≡ listed3 (tagType row) (lengths3 row) (tagElements row) = c .before .listed .ensures in
+returns c =
+    let listed = c .before .listed in
+    let args = c .before .before .before .before .before .before .before .args in
+    let row = now (args .row) in
+    let first : listed .result ≡ listed3 (tagType row) (lengths3 row) (tagElements row) = listed .ensures in
     let second : c .indexed .result ≡ indexed3 (tagType row) (lengths3 row) (tagElements row) = c .indexed .ensures in
     rw (← first, ← second) refl
 

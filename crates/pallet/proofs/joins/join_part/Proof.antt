@@ -19,17 +19,23 @@ sub-copy-into c =
 
 part-copy-into-start : tie.Need-part-copy-into-start
 part-copy-into-start c =
-    let i = (let back = c .before .before .before .before .before .before in
-    let start = back .before .before .before .before .before .before .before .before .before .before in
-    part-inside (start .pre) (start .fits .elements .fits) (back .send-read .ensures)) in
-    omega (arith, i, c .before .before .before .before .before .before .send-read .kept)
+    let send-read = c .before .before .before .before .before .before .send-read in
+    let pre = c .before .before .before .before .before .before .before .before .before .before .before .before .before
+    .before .before .before .pre in
+    let fits-at = c .before .before .before .before .before .before .before .before .before .before .before .before
+    .before .before .before .before .fits in
+    let i = part-inside pre (fits-at .elements .fits) (send-read .ensures) in
+    omega (arith, i, send-read .kept)
 
 part-copy-into-end : tie.Need-part-copy-into-end
 part-copy-into-end c =
-    let i = (let back = c .before .before .before .before .before .before in
-    let start = back .before .before .before .before .before .before .before .before .before .before in
-    part-inside (start .pre) (start .fits .elements .fits) (back .send-read .ensures)) in
-    omega (arith, i, c .before .before .before .before .before .before .send-read .kept)
+    let send-read = c .before .before .before .before .before .before .send-read in
+    let pre = c .before .before .before .before .before .before .before .before .before .before .before .before .before
+    .before .before .before .pre in
+    let fits-at = c .before .before .before .before .before .before .before .before .before .before .before .before
+    .before .before .before .before .fits in
+    let i = part-inside pre (fits-at .elements .fits) (send-read .ensures) in
+    omega (arith, i, send-read .kept)
 
 copy-into-requires : tie.Need-copy-into-requires
 copy-into-requires c κs =

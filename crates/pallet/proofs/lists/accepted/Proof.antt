@@ -11,13 +11,23 @@ returns : tie.Need-returns
 returns c = accepted-missing _ _ (c .before .before .count-of .ensures) (c .enum-told .given .1)
 
 all-listed-requires : tie.Need-all-listed-requires
-all-listed-requires c κs = accepted-fits _ _ (c .before .before .before .before .count-of .ensures) _ _ (c .before .before .n .given .1) (c .wide16 .ensures)
+all-listed-requires c κs =
+    let count-of = c .before .before .before .before .count-of in
+    accepted-fits _ _ (count-of .ensures) _ _ (c .before .before .n .given .1) (c .wide16 .ensures)
 
 returns-2 : tie.Need-returns-2
-returns-2 c = accepted-all _ _ (c .before .before .before .before .before .before .count-of .ensures) _ _ (c .before .before .before .before .n .given .1) (c .before .before .wide16 .ensures) (sym (c .before .all-listed .ensures) ∙ c .if1 .taken)
+returns-2 c =
+    let back = c .before .before .before .before in let n = back .n in
+    let count-of = back .before .before .count-of in
+    accepted-all _ _ (count-of .ensures) _ _ (n .given .1) (c .before .before .wide16 .ensures)
+    (sym (c .before .all-listed .ensures) ∙ c .if1 .taken)
 
 returns-3 : tie.Need-returns-3
-returns-3 c = accepted-unknown _ _ (c .before .before .before .before .before .before .count-of .ensures) _ _ (c .before .before .before .before .n .given .1) (c .before .before .wide16 .ensures) (sym (c .before .all-listed .ensures) ∙ c .if1 .left)
+returns-3 c =
+    let back = c .before .before .before .before in let n = back .n in
+    let count-of = back .before .before .count-of in
+    accepted-unknown _ _ (count-of .ensures) _ _ (n .given .1) (c .before .before .wide16 .ensures)
+    (sym (c .before .all-listed .ensures) ∙ c .if1 .left)
 
 pub accepted-spec : {M : Type 1} → statement M
 accepted-spec =

@@ -7,10 +7,19 @@ returns : tie.Need-returns
 returns c = asked-nowhere _ _ _ _ (c .before .before .scope-of .ensures) (c .enum-told .given .1)
 
 returns-2 : tie.Need-returns-2
-returns-2 c = asked-refused _ _ _ _ (c .before .before .before .before .before .before .scope-of .ensures) (c .before .before .before .before .scope .given .1) (c .before .before .accepted .ensures) (c .enum-told2 .given .1)
+returns-2 c =
+    let back = c .before .before .before .before in let scope = back .scope in
+    let scope-of = back .before .before .scope-of in
+    asked-refused _ _ _ _ (scope-of .ensures) (scope .given .1) (c .before .before .accepted .ensures)
+    (c .enum-told2 .given .1)
 
 returns-3 : tie.Need-returns-3
-returns-3 c = asked-both _ _ _ _ (c .before .before .before .before .before .before .before .before .scope-of .ensures) (c .before .before .before .before .before .before .scope .given .1) (c .before .before .before .before .accepted .ensures) (c .before .before .n .given .1) (c .wide16 .ensures)
+returns-3 c =
+    let back = c .before .before .before .before in let accepted = back .accepted in
+    let scope = back .before .before .scope in
+    let scope-of = back .before .before .before .before .scope-of in
+    asked-both _ _ _ _ (scope-of .ensures) (scope .given .1) (accepted .ensures) (c .before .before .n .given .1)
+    (c .wide16 .ensures)
 
 pub asked-of-spec : {M : Type 1} → statement M
 asked-of-spec =

@@ -14,17 +14,23 @@ sub-copy-into c =
 
 part-copy-into-start : tie.Need-part-copy-into-start
 part-copy-into-start c =
-    let i = (let back = c .before .before .before .before .before .before in
-    let start = back .before .before .before .before .before .before .before .before .before .before .before in
-    turn-inside _ _ (start .pre) (start .fits .start .fits) (back .send-list .ensures)) in
-    omega (arith, i, c .before .before .before .before .before .before .send-list .kept)
+    let send-list = c .before .before .before .before .before .before .send-list in
+    let pre = c .before .before .before .before .before .before .before .before .before .before .before .before .before
+    .before .before .before .before .pre in
+    let fits-at = c .before .before .before .before .before .before .before .before .before .before .before .before
+    .before .before .before .before .before .fits in
+    let i = turn-inside _ _ pre (fits-at .start .fits) (send-list .ensures) in
+    omega (arith, i, send-list .kept)
 
 part-copy-into-end : tie.Need-part-copy-into-end
 part-copy-into-end c =
-    let i = (let back = c .before .before .before .before .before .before in
-    let start = back .before .before .before .before .before .before .before .before .before .before .before in
-    turn-inside _ _ (start .pre) (start .fits .start .fits) (back .send-list .ensures)) in
-    omega (arith, i, c .before .before .before .before .before .before .send-list .kept)
+    let send-list = c .before .before .before .before .before .before .send-list in
+    let pre = c .before .before .before .before .before .before .before .before .before .before .before .before .before
+    .before .before .before .before .pre in
+    let fits-at = c .before .before .before .before .before .before .before .before .before .before .before .before
+    .before .before .before .before .before .fits in
+    let i = turn-inside _ _ pre (fits-at .start .fits) (send-list .ensures) in
+    omega (arith, i, send-list .kept)
 
 copy-into-requires : tie.Need-copy-into-requires
 copy-into-requires c κs =

@@ -5,10 +5,28 @@ use Rattle.pallet.proofs.pages.send_list.Statement.{statement}
 use Rattle.pallet.proofs.pages.send_list.Tie as tie
 
 part-dispatch-end : tie.Need-part-dispatch-end
-part-dispatch-end c = omega (arith, c .before .before .before .put-list .ensures .length-is, list-short (c .before .before .before .before .before .before .before .before .before .before .before .before .args .program .now) (c .before .before .before .before .before .before .before .before .before .before .before .before .args .attributes .now) (c .before .before .before .before .before .before .before .before .before .before .before .before .args .id) (c .before .before .before .before .before .before .before .before .before .before .before .before .pre .askable), c .before .before .before .put-list .kept)
+part-dispatch-end c =
+    let put-list = c .before .before .before .put-list in
+    let args = c .before .before .before .before .before .before .before .before .before .before .before .before .args in
+    let pre = c .before .before .before .before .before .before .before .before .before .before .before .before .pre in
+    omega (
+      arith,
+      put-list .ensures .length-is,
+      list-short (args .program .now) (args .attributes .now) (args .id) (pre .askable),
+      put-list .kept,
+    )
 
 returns : tie.Need-returns
-returns c = rw (list-part (c .before .before .before .before .before .before .before .before .before .before .before .before .before .before .before .before .before .before .before .args .program .now) (c .before .before .before .before .before .before .before .before .before .before .before .before .before .before .before .before .before .before .before .args .attributes .now) (c .before .before .before .before .before .before .before .before .before .before .before .before .before .before .before .before .before .before .before .args .id) _ _ _ (list-short (c .before .before .before .before .before .before .before .before .before .before .before .before .before .before .before .before .before .before .before .args .program .now) (c .before .before .before .before .before .before .before .before .before .before .before .before .before .before .before .before .before .before .before .args .attributes .now) (c .before .before .before .before .before .before .before .before .before .before .before .before .before .before .before .before .before .before .before .args .id) (c .before .before .before .before .before .before .before .before .before .before .before .before .before .before .before .before .before .before .before .pre .askable)) (c .before .before .before .before .before .before .before .before .before .before .put-list .ensures)) at (c .before .before .before .before .dispatch .ensures)
+returns c =
+    let dispatch = c .before .before .before .before .dispatch in
+    let put-list = c .before .before .before .before .before .before .before .before .before .before .put-list in
+    let args = c .before .before .before .before .before .before .before .before .before .before .before .before .before
+    .before .before .before .before .before .before .args in
+    let pre = c .before .before .before .before .before .before .before .before .before .before .before .before .before
+    .before .before .before .before .before .before .pre in
+    rw (list-part (args .program .now) (args .attributes .now) (args .id) _ _ _
+    (list-short (args .program .now) (args .attributes .now) (args .id) (pre .askable)) (put-list .ensures)) at
+    (dispatch .ensures)
 
 pub send-list-spec : {M : Type 1} → statement M
 send-list-spec =

@@ -5,10 +5,20 @@ use Rattle.pallet.proofs.requests.put_request.Statement.{statement}
 use Rattle.pallet.proofs.requests.put_request.Tie as tie
 
 cast-put-u8 : tie.Need-cast-put-u8
-cast-put-u8 c = let w = sendable-words (c .before .before .before .before .before .before .before .args .path .now) (c .before .before .before .before .before .before .before .pre .0) in search needs
+cast-put-u8 c =
+    let w = (let start = c .before .before .before .before .before .before .before in
+    sendable-words (start .args .path .now) (start .pre .0)) in
+    search needs
 
 returns : tie.Need-returns
-returns c = request-put _ _ _ _ _ _ _ _ _ _ (c .before .before .before .before .before .before .before .before .before .before .before .before .before .before .before .before .before .before .before .before .before .before .pre .2) refl (c .before .before .before .before .before .before .before .before .before .before .before .before .before .before .before .before .before .before .put-u8 .ensures) (c .before .before .before .before .before .before .before .before .before .before .before .before .before .before .put-u82 .ensures) (c .before .before .before .before .before .before .before .before .before .before .copy-into .ensures) (c .before .before .before .before .before .before .put-u16 .ensures) (c .before .before .put-u32 .ensures)
+returns c =
+    let back = c .before .before .before .before .before .before in let put-u16 = back .put-u16 in
+    let back = back .before .before .before .before in let copy-into = back .copy-into in
+    let back = back .before .before .before .before in let put-u82 = back .put-u82 in
+    let back = back .before .before .before .before in let put-u8 = back .put-u8 in
+    let pre = back .before .before .before .before .pre in
+    request-put _ _ _ _ _ _ _ _ _ _ (pre .2) refl (put-u8 .ensures) (put-u82 .ensures) (copy-into .ensures)
+    (put-u16 .ensures) (c .before .before .put-u32 .ensures)
 
 pub put-request-spec : {M : Type 1} → statement M
 put-request-spec =

@@ -5,16 +5,40 @@ use Rattle.pallet.proofs.requests.send_read.Statement.{statement}
 use Rattle.pallet.proofs.requests.send_read.Tie as tie
 
 put-request-requires : tie.Need-put-request-requires
-put-request-requires c κs = (c .before .before .before .before .before .before .before .pre .0 .sendable, c .before .before .before .before .before .before .before .pre .1, omega (arith, sendable-words (c .before .before .before .before .before .before .before .args .path .now) (c .before .before .before .before .before .before .before .pre .0 .sendable)))
+put-request-requires c κs =
+    let pre = c .before .before .before .before .before .before .before .pre in
+    let args = c .before .before .before .before .before .before .before .args in
+    (pre .0 .sendable, pre .1, omega (arith, sendable-words (args .path .now) (pre .0 .sendable)))
 
 part-dispatch-end : tie.Need-part-dispatch-end
-part-dispatch-end c = omega (arith, c .before .before .before .put-request .ensures .length-is, request-length (c .before .before .before .before .before .before .before .before .before .before .before .args .path .now) (c .before .before .before .before .before .before .before .before .before .before .before .args .elements) (c .before .before .before .before .before .before .before .before .before .before .before .args .offset), sendable-words (c .before .before .before .before .before .before .before .before .before .before .before .args .path .now) (c .before .before .before .before .before .before .before .before .before .before .before .pre .0 .sendable), c .before .before .before .put-request .kept)
+part-dispatch-end c =
+    let put-request = c .before .before .before .put-request in
+    let args = c .before .before .before .before .before .before .before .before .before .before .before .args in
+    let pre = c .before .before .before .before .before .before .before .before .before .before .before .pre in
+    omega (
+      arith,
+      put-request .ensures .length-is,
+      request-length (args .path .now) (args .elements) (args .offset),
+      sendable-words (args .path .now) (pre .0 .sendable),
+      put-request .kept,
+    )
 
 dispatch-requires : tie.Need-dispatch-requires
-dispatch-requires c κs = (c .before .before .before .before .before .before .before .before .before .before .before .before .before .pre .0 .tables, c .before .before .before .before .before .before .before .before .before .before .before .before .before .pre .0 .limit-fits, c .before .before .before .before .before .before .before .before .before .before .before .before .before .pre .0 .has-room)
+dispatch-requires c κs =
+    let pre = c .before .before .before .before .before .before .before .before .before .before .before .before .before
+    .pre in
+    (pre .0 .tables, pre .0 .limit-fits, pre .0 .has-room)
 
 returns : tie.Need-returns
-returns c = rw (request-part (c .before .before .before .before .before .before .before .before .before .before .before .before .before .before .before .before .before .before .args .path .now) (c .before .before .before .before .before .before .before .before .before .before .before .before .before .before .before .before .before .before .args .elements) (c .before .before .before .before .before .before .before .before .before .before .before .before .before .before .before .before .before .before .args .offset) _ _ _ (omega (arith, sendable-words (c .before .before .before .before .before .before .before .before .before .before .before .before .before .before .before .before .before .before .args .path .now) (c .before .before .before .before .before .before .before .before .before .before .before .before .before .before .before .before .before .before .pre .0 .sendable))) (c .before .before .before .before .before .before .before .before .before .before .put-request .ensures)) at (c .before .before .before .before .dispatch .ensures)
+returns c =
+    let dispatch = c .before .before .before .before .dispatch in
+    let put-request = c .before .before .before .before .before .before .before .before .before .before .put-request in
+    let args = c .before .before .before .before .before .before .before .before .before .before .before .before .before
+    .before .before .before .before .before .args in
+    let pre = c .before .before .before .before .before .before .before .before .before .before .before .before .before
+    .before .before .before .before .before .pre in
+    rw (request-part (args .path .now) (args .elements) (args .offset) _ _ _
+    (omega (arith, sendable-words (args .path .now) (pre .0 .sendable))) (put-request .ensures)) at (dispatch .ensures)
 
 pub send-read-spec : {M : Type 1} → statement M
 send-read-spec =

@@ -33,15 +33,19 @@ sub-total c =
 add-total : tie.Need-add-total Inv-loop μ-loop
 add-total c =
     let q = (let back = c .before .before .before .before .before in
+    let page-step = back .page-step in
+    let loop = back .before .before .loop in
     let pre = back .before .before .before .before .before .before .before .pre in
-    measure-few (pre .0) (back .before .before .loop .inv .1) (back .page-step .ensures) (pre .4) (c .before .u .given .1)) in
+    measure-few (pre .0) (loop .inv .1) (page-step .ensures) (pre .4) (c .before .u .given .1)) in
     search needs
 
 loop-less : tie.Need-loop-less Inv-loop μ-loop
 loop-less c =
     let q = (let back = c .before .before .before .before .before in
+    let page-step = back .page-step in
+    let loop = back .before .before .loop in
     let pre = back .before .before .before .before .before .before .before .pre in
-    measure-few (pre .0) (back .before .before .loop .inv .1) (back .page-step .ensures) (pre .4) (c .before .u .given .1)) in
+    measure-few (pre .0) (loop .inv .1) (page-step .ensures) (pre .4) (c .before .u .given .1)) in
     omega (arith, q .0, q .1)
 
 loop-again : tie.Need-loop-again Inv-loop μ-loop

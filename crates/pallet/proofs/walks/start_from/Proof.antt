@@ -4,16 +4,24 @@ use Rattle.pallet.proofs.walks.start_from.Statement.{statement}
 use Rattle.pallet.proofs.walks.start_from.Tie as tie
 
 start-below-requires : tie.Need-start-below-requires
-start-below-requires c κs = tag-above _ _ _ _ _ (c .before .before .before .next-symbol .ensures) (c .before .id .given .1)
+start-below-requires c κs =
+    let next-symbol = c .before .before .before .next-symbol in
+    tag-above _ _ _ _ _ (next-symbol .ensures) (c .before .id .given .1)
 
 returns : tie.Need-returns
-returns c = start-tag _ _ _ _ _ (c .before .before .before .before .next-symbol .ensures) _ (c .before .before .id .given .1) (c .start-below .ensures)
+returns c =
+    let next-symbol = c .before .before .before .before .next-symbol in
+    start-tag _ _ _ _ _ (next-symbol .ensures) _ (c .before .before .id .given .1) (c .start-below .ensures)
 
 start-below-requires-2 : tie.Need-start-below-requires-2
-start-below-requires-2 c κs = other-above _ _ _ _ _ (c .before .before .before .next-symbol .ensures) (c .before .id2 .given .1)
+start-below-requires-2 c κs =
+    let next-symbol = c .before .before .before .next-symbol in
+    other-above _ _ _ _ _ (next-symbol .ensures) (c .before .id2 .given .1)
 
 returns-2 : tie.Need-returns-2
-returns-2 c = start-other _ _ _ _ _ (c .before .before .before .before .next-symbol .ensures) _ (c .before .before .id2 .given .1) (c .start-below2 .ensures)
+returns-2 c =
+    let next-symbol = c .before .before .before .before .next-symbol in
+    start-other _ _ _ _ _ (next-symbol .ensures) _ (c .before .before .id2 .given .1) (c .start-below2 .ensures)
 
 enum-told : tie.Need-enum-told
 enum-told c = search needs

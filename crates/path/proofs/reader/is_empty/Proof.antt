@@ -22,5 +22,7 @@ unfolding code.routine tablesOf
 is-empty-spec 𝓤 H 𝓜 𝓖 𝓡 =
     entered 𝓤 H (tripleOf 𝓤 H (𝓖 .A) is-empty.signature (is-empty.spec 𝓤 H (𝓖 .A) (𝓜 .mem) (𝓡 .run)))
     (tables 𝓤 H 𝓜 𝓡 code.env .C) (tables 𝓤 H 𝓜 𝓡 code.env .Λ) name code.function (code.unfolded 𝓤 H 𝓜 𝓡)
-    (thin-meets bool tyBool callee.name (λ path at r. r ≡ leb (length path) at) 𝓤 H (𝓖 .A) (givenOf 𝓤 H 𝓜 𝓖) (bool-lawful 𝓤 H (𝓖 .A) (givenOf 𝓤 H 𝓜 𝓖) .typed) (tablesOf 𝓤 H 𝓜 (tables 𝓤 H 𝓜 𝓡 code.env))
-    (cited 𝓤 H (At bool tyBool callee.name (λ path at r. r ≡ leb (length path) at) 𝓤 H (𝓖 .A)) 𝓜 𝓡 code.env callee.name callee.routine code.calls-path·reader·ended (callee-thm.met 𝓤 H 𝓜 𝓖 𝓡)))
+    (thin-meets bool tyBool callee.name (λ path at r. r ≡ leb (length path) at) 𝓤 H (𝓖 .A) (givenOf 𝓤 H 𝓜 𝓖)
+    (bool-lawful 𝓤 H (𝓖 .A) (givenOf 𝓤 H 𝓜 𝓖) .typed) (tablesOf 𝓤 H 𝓜 (tables 𝓤 H 𝓜 𝓡 code.env))
+    (cited 𝓤 H (At bool tyBool callee.name (λ path at r. r ≡ leb (length path) at) 𝓤 H (𝓖 .A)) 𝓜 𝓡 code.env callee.name
+    callee.routine code.calls-path·reader·ended (callee-thm.met 𝓤 H 𝓜 𝓖 𝓡)))

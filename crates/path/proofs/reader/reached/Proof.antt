@@ -25,8 +25,11 @@ use prog.Wp.{Heap, Out, Env, afterSeq, afterBlock, afterTurn, Calls, Loops, Wp, 
 use ghost.Atoms.{Atoms, sem}
 use contract.Monad.{Fun}
 use contract.Running.{givenOf, tables, tablesOf}
-use types.Kit.{Given, Item, ‵, raw, runs, anyQ, atRet, Sq, _⊛_, ⋆, _$_, _∵_, !, qed, by, move, drop, use1, use2, split, rewrite, fsplit, fjoin, suffices, frame, done}
-use types.Run.{look, store, init, forget, stop, from, load, lit, of-opd, bin, and-then, no-more, assigns, assigns-last, land, first, blocks, returns, enter, alloc1, alloc0, params1, pass1, pass0, free1, free0, exec, Below, again, loops}
+use types.Kit.{Given, Item, ‵, raw, runs, anyQ, atRet, Sq, _⊛_, ⋆, _$_, _∵_, !, qed, by, move, drop, use1, use2, split}
+use types.Kit.{rewrite, fsplit, fjoin, suffices, frame, done}
+use types.Run.{look, store, init, forget, stop, from, load, lit, of-opd, bin, and-then, no-more, assigns, assigns-last}
+use types.Run.{land, first, blocks, returns, enter, alloc1, alloc0, params1, pass1, pass0, free1, free0, exec, Below}
+use types.Run.{again, loops}
 use sound.WpLaws.{FmC, fmOf, WpFn-mono}
 use denote.RattleType.{owns}
 use denote.Laws.{Is}
@@ -49,7 +52,9 @@ use Rattle.path.specs.Paths.{Decoded}
 use Rattle.path.specs.declared.Segment.{Segment}
 use Rattle.path.specs.declared.reader.Reader.{Reader}
 use Rattle.path.proofs.Branches.{tests}
-use Rattle.path.proofs.Callees.{New, Moved, NextOf, Seg, NewSaid, MovedSaid, typed-reader, typed-segment, reader-twice, to-new, goes-new, new-told, to-segment, goes-segment, segment-told, to-next-of, goes-next-of, next-of-told, to-moved, goes-moved, moved-told}
+use Rattle.path.proofs.Callees.{New, Moved, NextOf, Seg, NewSaid, MovedSaid, typed-reader, typed-segment}
+use Rattle.path.proofs.Callees.{reader-twice, to-new, goes-new, new-told, to-segment, goes-segment, segment-told}
+use Rattle.path.proofs.Callees.{to-next-of, goes-next-of, next-of-told, to-moved, goes-moved, moved-told}
 use Rattle.path.proofs.Reaching.{Reaching, reaching-start, reaching-next, reaching-end}
 use Rattle.path.proofs.Thin.{B}
 use Rattle.path.proofs.Segment as S

@@ -20,5 +20,7 @@ unfolding code.routine tablesOf
 segment-spec 𝓤 H 𝓜 𝓖 𝓡 =
     entered 𝓤 H (tripleOf 𝓤 H (𝓖 .A) segment.signature (segment.spec 𝓤 H (𝓖 .A) (𝓜 .mem) (𝓡 .run)))
     (tables 𝓤 H 𝓜 𝓡 code.env .C) (tables 𝓤 H 𝓜 𝓡 code.env .Λ) name code.function (code.unfolded 𝓤 H 𝓜 𝓡)
-    (thin-meets S.the-row S′.mir callee.name Decoded 𝓤 H (𝓖 .A) (givenOf 𝓤 H 𝓜 𝓖) (EL.lawful S.the-type S′.the-laws 𝓤 H (𝓖 .A) (givenOf 𝓤 H 𝓜 𝓖) tt .typed) (tablesOf 𝓤 H 𝓜 (tables 𝓤 H 𝓜 𝓡 code.env))
-    (cited 𝓤 H (At S.the-row S′.mir callee.name Decoded 𝓤 H (𝓖 .A)) 𝓜 𝓡 code.env callee.name callee.routine code.calls-path·segment-at (callee-thm.met 𝓤 H 𝓜 𝓖 𝓡)))
+    (thin-meets S.the-row S′.mir callee.name Decoded 𝓤 H (𝓖 .A) (givenOf 𝓤 H 𝓜 𝓖)
+    (EL.lawful S.the-type S′.the-laws 𝓤 H (𝓖 .A) (givenOf 𝓤 H 𝓜 𝓖) tt .typed) (tablesOf 𝓤 H 𝓜 (tables 𝓤 H 𝓜 𝓡 code.env))
+    (cited 𝓤 H (At S.the-row S′.mir callee.name Decoded 𝓤 H (𝓖 .A)) 𝓜 𝓡 code.env callee.name callee.routine
+    code.calls-path·segment-at (callee-thm.met 𝓤 H 𝓜 𝓖 𝓡)))

@@ -10,11 +10,15 @@ mul-t6 : tie.Need-mul-t6
 mul-t6 c = omega (arith, ap (λ (k : ℕ). c .before .before .args .p * k) (c .wide .ensures ∙ c .before .element-size .ensures))
 
 add-t7 : tie.Need-add-t7
-add-t7 c = omega (arith, ap (λ (k : ℕ). c .before .before .before .args .p * k) (c .before .wide .ensures ∙ c .before .before .element-size .ensures))
+add-t7 c =
+    let args = c .before .before .before .args in
+    omega (arith, ap (λ (k : ℕ). args .p * k) (c .before .wide .ensures ∙ c .before .before .element-size .ensures))
 
 returns : tie.Need-returns
 unfolding elementsFrom
-returns c = rw (c .before .before .wide .ensures, c .before .before .before .element-size .ensures)
+returns c =
+    let element-size = c .before .before .before .element-size in
+    rw (c .before .before .wide .ensures, element-size .ensures)
 
 pub elements-from-spec : {M : Type 1} → statement M
 elements-from-spec =

@@ -13,10 +13,23 @@ returns-2 : tie.Need-returns-2
 returns-2 c = search index-laws
 
 position-requires : tie.Need-position-requires
-position-requires c κs = position-small (c .before .before .before .before .before .before .before .args .g) (valuesOf (c .before .before .before .before .before .before .before .args .run)) (c .before .before .before .before .before .if1 .left) _ (c .before .inside .ensures) (c .if3 .taken) _ (c .before .before .before .before .before .before .before .pre)
+position-requires c κs =
+    let back = c .before .before .before .before .before in let if1 = back .if1 in
+    let start = back .before .before in
+    position-small (start .args .g) (valuesOf (start .args .run)) (if1 .left) _ (c .before .inside .ensures)
+    (c .if3 .taken) _ (start .pre)
 
 elements-from-requires : tie.Need-elements-from-requires
-elements-from-requires c κs = (position-counted (c .before .before .before .before .before .before .before .before .args .g) (valuesOf (c .before .before .before .before .before .before .before .before .args .run)) (c .before .before .before .before .before .before .if1 .left) _ (c .before .before .inside .ensures) (c .before .if3 .taken) _ (c .before .before .before .before .before .before .before .before .pre) _ (c .position .ensures), position-within (c .before .before .before .before .before .before .before .before .args .g) (valuesOf (c .before .before .before .before .before .before .before .before .args .run)) (c .before .before .before .before .before .before .if1 .left) _ (c .before .before .inside .ensures) (c .before .if3 .taken) _ (c .before .before .before .before .before .before .before .before .pre) _ (c .position .ensures))
+elements-from-requires c κs =
+    let if3 = c .before .if3 in
+    let back = c .before .before in let inside = back .inside in
+    let back = back .before .before .before .before in let if1 = back .if1 in
+    let start = back .before .before in (
+      position-counted (start .args .g) (valuesOf (start .args .run)) (if1 .left) _ (inside .ensures) (if3 .taken) _
+          (start .pre) _ (c .position .ensures),
+      position-within (start .args .g) (valuesOf (start .args .run)) (if1 .left) _ (inside .ensures) (if3 .taken) _
+          (start .pre) _ (c .position .ensures),
+    )
 
 returns-3 : tie.Need-returns-3
 returns-3 c = search index-laws

@@ -17,7 +17,11 @@ loop-holds : tie.Need-loop-holds Inv-loop μ-loop
 loop-holds c = search runs
 
 add-count : tie.Need-add-count Inv-loop μ-loop
-add-count c = let h : c .before .before .before .before .before .loop .count + 1 ≤ length (c .before .before .before .before .before .before .before .args .path .now) = search runs in omega (arith, h)
+add-count c =
+    let loop = c .before .before .before .before .before .loop in
+    let args = c .before .before .before .before .before .before .before .args in
+    let h : loop .count + 1 ≤ length (args .path .now) = search runs in
+    omega (arith, h)
 
 loop-less : tie.Need-loop-less Inv-loop μ-loop
 loop-less c = search runs

@@ -6,7 +6,10 @@ use Rattle.resolve.proofs.members.among.Statement.{statement}
 use Rattle.resolve.proofs.members.among.Tie as tie
 
 mul-visible-member : tie.Need-mul-visible-member
-mul-visible-member c = let h : c .before .i .given .0 .0 < length (c .before .before .before .before .before .before .args .members .now) = search among-laws in search needs
+mul-visible-member c =
+    let args = c .before .before .before .before .before .before .args in
+    let h : c .before .i .given .0 .0 < length (args .members .now) = search among-laws in
+    search needs
 
 shared-slice-element-visible-member : tie.Need-shared-slice-element-visible-member
 shared-slice-element-visible-member c = search among-laws

@@ -7,11 +7,26 @@ use Rattle.resolve.proofs.members.member_place.Tie as tie
 
 returns : tie.Need-returns
 unfolding memberTarget
-returns c = rw (ne-eqb _ _ (c .before .if1 .taken), c .before .before .before .before .before .further .ensures, c .before .before .before .larger .ensures)
+returns c =
+    let larger = c .before .before .before .larger in
+    let further = c .before .before .before .before .before .further in
+    rw (ne-eqb _ _ (c .before .if1 .taken), further .ensures, larger .ensures)
 
 returns-2 : tie.Need-returns-2
 unfolding memberTarget
-returns-2 c = rw (eq-eqb _ _ (c .before .before .before .before .before .before .if1 .left), c .before .before .before .before .before .before .before .before .before .before .further .ensures, c .before .before .before .before .before .before .before .before .larger .ensures, c .before .before .wide .ensures, c .before .before .before .larger2 .ensures, member-lengths)
+returns-2 c =
+    let larger2 = c .before .before .before .larger2 in
+    let if1 = c .before .before .before .before .before .before .if1 in
+    let larger = c .before .before .before .before .before .before .before .before .larger in
+    let further = c .before .before .before .before .before .before .before .before .before .before .further in
+    rw (
+      eq-eqb _ _ (if1 .left),
+      further .ensures,
+      larger .ensures,
+      c .before .before .wide .ensures,
+      larger2 .ensures,
+      member-lengths,
+    )
 
 pub member-place-spec : {M : Type 1} → statement M
 member-place-spec =

@@ -5,13 +5,17 @@ use Rattle.resolve.proofs.moves.step.Statement.{statement}
 use Rattle.resolve.proofs.moves.step.Tie as tie
 
 index-requires : tie.Need-index-requires
-index-requires c κs = standing-bounded _ _ _ (c .before .before .before .before .before .before .args .g) (c .before .before .before .before .before .before .pre .2)
+index-requires c κs =
+    let start = c .before .before .before .before .before .before in
+    standing-bounded _ _ _ (start .args .g) (start .pre .2)
 
 symbol-name-requires : tie.Need-symbol-name-requires
 symbol-name-requires c κs = search name-at
 
 member-of-requires : tie.Need-member-of-requires
-member-of-requires c κs = standing-start _ _ _ (c .before .before .before .before .before .before .before .args .g) (c .before .before .before .before .before .before .before .pre .2)
+member-of-requires c κs =
+    let start = c .before .before .before .before .before .before .before in
+    standing-start _ _ _ (start .args .g) (start .pre .2)
 
 returns : tie.Need-returns
 returns c = search steps

@@ -13,7 +13,9 @@ cast-in-scope : tie.Need-cast-in-scope
 cast-in-scope c = let h : c .before .k .given .0 .0 < 16 = search program-few in omega (arith, h)
 
 returns : tie.Need-returns
-returns c = program-found _ _ _ _ (c .before .before .before .before .find-program .ensures) _ _ _ _ _ _ _ _ (search needs) refl (c .in-scope .ensures)
+returns c =
+    let find-program = c .before .before .before .before .find-program in
+    program-found _ _ _ _ (find-program .ensures) _ _ _ _ _ _ _ _ (search needs) refl (c .in-scope .ensures)
 
 returns-2 : tie.Need-returns-2
 returns-2 c = search programs-laws

@@ -14,11 +14,18 @@ symbol-name-requires : tie.Need-symbol-name-requires
 symbol-name-requires c κs = search name-at
 
 add-t11 : tie.Need-add-t11
-add-t11 c = let h : c .before .before .before .before .before .start .given .0 .0 + c .before .before .before .before .before .start .given .0 .1 .0 ≤ length (c .before .before .before .before .before .before .before .before .before .args .path .now) = search name-at in
-    let k : 8 ≤ c .before .before .before .before .before .start .given .0 .1 .0 = search prefix-long in omega (arith, h, k)
+add-t11 c =
+    let start = c .before .before .before .before .before .start in
+    let args = c .before .before .before .before .before .before .before .before .before .args in
+    let h : start .given .0 .0 + start .given .0 .1 .0 ≤ length (args .path .now) = search name-at in
+    let k : 8 ≤ start .given .0 .1 .0 = search prefix-long in
+    omega (arith, h, k)
 
 sub-t12 : tie.Need-sub-t12
-sub-t12 c = let k : 8 ≤ c .before .before .before .before .before .start .given .0 .1 .0 = search prefix-long in omega (arith, k)
+sub-t12 c =
+    let start = c .before .before .before .before .before .start in
+    let k : 8 ≤ start .given .0 .1 .0 = search prefix-long in
+    omega (arith, k)
 
 returns-2 : tie.Need-returns-2
 returns-2 c = search prefixes

@@ -8,7 +8,9 @@ returns : tie.Need-returns
 returns c = search serving
 
 masked-write-requires : tie.Need-masked-write-requires
-masked-write-requires c κs = aimed-atomic _ _ _ (c .before .before .before .before .before .before .before .before .pre .0)
+masked-write-requires c κs =
+    let pre = c .before .before .before .before .before .before .before .before .pre in
+    aimed-atomic _ _ _ (pre .0)
 
 returns-2 : tie.Need-returns-2
 returns-2 c = search serving

@@ -5,13 +5,33 @@ use Rattle.services.proofs.targets.tag_service.Statement.{statement}
 use Rattle.services.proofs.targets.tag_service.Tie as tie
 
 serve-requires : tie.Need-serve-requires
-serve-requires c κs = (tag-aimed _ _ _ _ (c .before .before .before .before .before .before .before .before .before .before .before .before .before .before .args .others .now) _ _ (c .before .before .before .before .before .before .before .before .before .before .before .before .before .before .args .templates .now) _ _ _ _ (c .before .before .before .before .before .before .before .before .before .before .before .before .before .before .pre .1) (c .before .before .before .before .before .before .before .before .before .before .before .before .before .before .pre .0) _ _ (c .before .before .before .g .given .1) (c .before .before .before .before .before .tag-target .ensures), c .before .before .before .before .before .before .before .before .before .before .before .before .before .before .pre .2)
+serve-requires c κs =
+    let back = c .before .before .before in let g = back .g in
+    let tag-target = back .before .before .tag-target in
+    let start = back .before .before .before .before .before .before .before .before .before .before .before in (
+      tag-aimed _ _ _ _ (start .args .others .now) _ _ (start .args .templates .now) _ _ _ _ (start .pre .1)
+          (start .pre .0) _ _ (g .given .1) (tag-target .ensures),
+      start .pre .2,
+    )
 
 returns : tie.Need-returns
-returns c = tag-found _ _ _ _ (c .before .before .before .before .before .before .before .before .before .before .before .before .before .before .before .before .before .before .before .args .others .now) _ _ (c .before .before .before .before .before .before .before .before .before .before .before .before .before .before .before .before .before .before .before .args .templates .now) _ _ _ _ _ _ _ (c .before .before .before .before .before .before .before .before .before .before .before .is-write .ensures) _ (c .before .before .before .before .before .before .before .before .before .before .tag-target .ensures) _ _ _ _ _ (c .before .before .before .before .before .before .before .before .g .given .1) (c .before .before .before .before .serve .ensures)
+returns c =
+    let back = c .before .before .before .before in let serve = back .serve in
+    let back = back .before .before .before .before in let g = back .g in
+    let back = back .before .before in let tag-target = back .tag-target in
+    let is-write = back .before .is-write in
+    let args = back .before .before .before .before .before .before .before .before .before .args in
+    tag-found _ _ _ _ (args .others .now) _ _ (args .templates .now) _ _ _ _ _ _ _ (is-write .ensures) _
+    (tag-target .ensures) _ _ _ _ _ (g .given .1) (serve .ensures)
 
 returns-2 : tie.Need-returns-2
-returns-2 c = tag-turned _ _ _ _ (c .before .before .before .before .before .before .before .before .before .before .before .before .before .before .before .before .args .others .now) _ _ (c .before .before .before .before .before .before .before .before .before .before .before .before .before .before .before .before .args .templates .now) _ _ _ _ _ _ _ (c .before .before .before .before .before .before .before .before .is-write .ensures) _ (c .before .before .before .before .before .before .before .tag-target .ensures) _ _ _ _ _ (c .before .before .before .before .before .status .given .1) refl (c .before .before .fail .ensures)
+returns-2 c =
+    let back = c .before .before .before .before .before in let status = back .status in
+    let back = back .before .before in let tag-target = back .tag-target in
+    let is-write = back .before .is-write in
+    let args = back .before .before .before .before .before .before .before .before .before .args in
+    tag-turned _ _ _ _ (args .others .now) _ _ (args .templates .now) _ _ _ _ _ _ _ (is-write .ensures) _
+    (tag-target .ensures) _ _ _ _ _ (status .given .1) refl (c .before .before .fail .ensures)
 
 pub tag-service-spec : {M : Type 1} → statement M
 tag-service-spec =

@@ -7,10 +7,20 @@ use Rattle.simulator.proofs.session.respond.Statement.{statement}
 use Rattle.simulator.proofs.session.respond.Tie as tie
 
 slice-reshare-prefix-show : tie.Need-slice-reshare-prefix-show
-slice-reshare-prefix-show c = let n = reply-fits _ _ _ _ (c .before .before .before .before .answer .ensures) (c .before .before .before .before .before .before .before .before .before .before .before .before .before .pre .1) (c .before .before .before .before .before .before .before .before .before .before .before .before .before .pre .2) in omega (arith, n)
+slice-reshare-prefix-show c =
+    let n = (let back = c .before .before .before .before in
+    let answer = back .answer in
+    let pre = back .before .before .before .before .before .before .before .before .before .pre in
+    reply-fits _ _ _ _ (answer .ensures) (pre .1) (pre .2)) in
+    omega (arith, n)
 
 slice-aggregate-show : tie.Need-slice-aggregate-show
-slice-aggregate-show c = let n = reply-fits _ _ _ _ (c .before .before .before .before .before .answer .ensures) (c .before .before .before .before .before .before .before .before .before .before .before .before .before .before .pre .1) (c .before .before .before .before .before .before .before .before .before .before .before .before .before .before .pre .2) in sym (length-take-le _ _ (omega (arith, n)))
+slice-aggregate-show c =
+    let n = (let back = c .before .before .before .before .before in
+    let answer = back .answer in
+    let pre = back .before .before .before .before .before .before .before .before .before .pre in
+    reply-fits _ _ _ _ (answer .ensures) (pre .1) (pre .2)) in
+    sym (length-take-le _ _ (omega (arith, n)))
 
 pub respond-spec : {M : Type 1} → statement M
 respond-spec =

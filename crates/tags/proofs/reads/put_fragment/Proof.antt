@@ -6,19 +6,70 @@ use Rattle.tags.proofs.reads.put_fragment.Statement.{statement}
 use Rattle.tags.proofs.reads.put_fragment.Tie as tie
 
 put-type-header-requires : tie.Need-put-type-header-requires
-put-type-header-requires c κs = omega (arith, c .before .before .before .put-header .kept, c .before .before .before .put-header .ensures .length-is, plain-start (c .before .before .before .before .before .before .before .args .service) (statusOf (c .before .before .before .before .before .before .before .args .status)) (c .before .before .before .before .before .before .before .pre .0))
+put-type-header-requires c κs =
+    let put-header = c .before .before .before .put-header in
+    let args = c .before .before .before .before .before .before .before .args in
+    let pre = c .before .before .before .before .before .before .before .pre in
+    omega (
+      arith,
+      put-header .kept,
+      put-header .ensures .length-is,
+      plain-start (args .service) (statusOf (args .status)) (pre .0),
+    )
 
 add-behind : tie.Need-add-behind
-add-behind c = omega (arith, c .before .before .before .before .before .before .put-header .ensures .length-is, plain-start (c .before .before .before .before .before .before .before .before .before .before .args .service) (statusOf (c .before .before .before .before .before .before .before .before .before .before .args .status)) (c .before .before .before .before .before .before .before .before .before .before .pre .0), c .before .before .put-type-header .ensures .length-is, header-length (c .before .before .before .before .before .before .before .before .before .before .args .structures .now) (c .before .before .before .before .before .before .before .before .before .before .args .ty), header-few (c .before .before .before .before .before .before .before .before .before .before .args .ty))
+add-behind c =
+    let put-header = c .before .before .before .before .before .before .put-header in
+    let args = c .before .before .before .before .before .before .before .before .before .before .args in
+    let pre = c .before .before .before .before .before .before .before .before .before .before .pre in
+    omega (
+      arith,
+      put-header .ensures .length-is,
+      plain-start (args .service) (statusOf (args .status)) (pre .0),
+      c .before .before .put-type-header .ensures .length-is,
+      header-length (args .structures .now) (args .ty),
+      header-few (args .ty),
+    )
 
 copy-into-requires : tie.Need-copy-into-requires
-copy-into-requires c κs = omega (arith, c .before .before .before .before .before .before .before .put-header .kept, c .before .before .before .put-type-header .kept, c .before .before .before .before .before .before .before .put-header .ensures .length-is, plain-start (c .before .before .before .before .before .before .before .before .before .before .before .args .service) (statusOf (c .before .before .before .before .before .before .before .before .before .before .before .args .status)) (c .before .before .before .before .before .before .before .before .before .before .before .pre .0), c .before .before .before .put-type-header .ensures .length-is, header-length (c .before .before .before .before .before .before .before .before .before .before .before .args .structures .now) (c .before .before .before .before .before .before .before .before .before .before .before .args .ty))
+copy-into-requires c κs =
+    let put-type-header = c .before .before .before .put-type-header in
+    let put-header = c .before .before .before .before .before .before .before .put-header in
+    let args = c .before .before .before .before .before .before .before .before .before .before .before .args in
+    let pre = c .before .before .before .before .before .before .before .before .before .before .before .pre in
+    omega (
+      arith,
+      put-header .kept,
+      put-type-header .kept,
+      put-header .ensures .length-is,
+      plain-start (args .service) (statusOf (args .status)) (pre .0),
+      put-type-header .ensures .length-is,
+      header-length (args .structures .now) (args .ty),
+    )
 
 add-result : tie.Need-add-result
-add-result c = omega (arith, c .before .before .before .before .before .before .before .before .before .before .put-header .ensures .length-is, plain-start (c .before .before .before .before .before .before .before .before .before .before .before .before .before .before .args .service) (statusOf (c .before .before .before .before .before .before .before .before .before .before .before .before .before .before .args .status)) (c .before .before .before .before .before .before .before .before .before .before .before .before .before .before .pre .0), c .before .before .before .before .before .before .put-type-header .ensures .length-is, header-length (c .before .before .before .before .before .before .before .before .before .before .before .before .before .before .args .structures .now) (c .before .before .before .before .before .before .before .before .before .before .before .before .before .before .args .ty))
+add-result c =
+    let put-type-header = c .before .before .before .before .before .before .put-type-header in
+    let put-header = c .before .before .before .before .before .before .before .before .before .before .put-header in
+    let args = c .before .before .before .before .before .before .before .before .before .before .before .before .before
+    .before .args in
+    let pre = c .before .before .before .before .before .before .before .before .before .before .before .before .before
+    .before .pre in
+    omega (
+      arith,
+      put-header .ensures .length-is,
+      plain-start (args .service) (statusOf (args .status)) (pre .0),
+      put-type-header .ensures .length-is,
+      header-length (args .structures .now) (args .ty),
+    )
 
 returns : tie.Need-returns
-returns c = fragment-put _ _ _ _ _ _ _ _ _ _ _ (c .before .before .before .before .before .before .before .before .before .before .before .before .before .before .pre .0) (c .before .before .before .before .before .before .before .before .before .before .before .before .before .before .pre .2) (c .before .before .before .before .before .before .before .before .before .before .put-header .ensures) (c .before .before .before .before .before .before .put-type-header .ensures) (c .before .before .copy-into .ensures)
+returns c =
+    let back = c .before .before .before .before .before .before in let put-type-header = back .put-type-header in
+    let back = back .before .before .before .before in let put-header = back .put-header in
+    let pre = back .before .before .before .before .pre in
+    fragment-put _ _ _ _ _ _ _ _ _ _ _ (pre .0) (pre .2) (put-header .ensures) (put-type-header .ensures)
+    (c .before .before .copy-into .ensures)
 
 pub put-fragment-spec : {M : Type 1} → statement M
 put-fragment-spec =

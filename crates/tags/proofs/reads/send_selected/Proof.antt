@@ -6,19 +6,33 @@ use Rattle.tags.proofs.reads.send_selected.Statement.{statement}
 use Rattle.tags.proofs.reads.send_selected.Tie as tie
 
 shared-slice-read-bit-of : tie.Need-shared-slice-read-bit-of
-shared-slice-read-bit-of c = aimed-first _ _ _ (c .before .before .before .before .before .before .pre .0)
+shared-slice-read-bit-of c =
+    let pre = c .before .before .before .before .before .before .pre in
+    aimed-first _ _ _ (pre .0)
 
 returns : tie.Need-returns
-returns c = bit-sent _ _ _ _ _ _ _ _ _ _ _ (c .before .before .before .before .before .before .before .if1 .taken) (c .before .before .before .before .before .bit-of .ensures) (c .before .before .send-from .ensures)
+returns c =
+    let back = c .before .before .before .before .before in let bit-of = back .bit-of in
+    let if1 = back .before .before .if1 in
+    bit-sent _ _ _ _ _ _ _ _ _ _ _ (if1 .taken) (bit-of .ensures) (c .before .before .send-from .ensures)
 
 mul-size : tie.Need-mul-size
-mul-size c = omega (arith, aimed-inside _ _ _ (c .before .before .before .before .before .before .pre .0) _ (c .before .before .before .before .before .before .pre .1), c .before .before .before .before .before .before .pre .0 .small-memory)
+mul-size c =
+    let pre = c .before .before .before .before .before .before .pre in
+    omega (arith, aimed-inside _ _ _ (pre .0) _ (pre .1), pre .0 .small-memory)
 
 send-from-requires-2 : tie.Need-send-from-requires-2
-send-from-requires-2 c κs = (aimed-inside _ _ _ (c .before .before .before .before .before .before .before .pre .0) _ (c .before .before .before .before .before .before .before .pre .1), omega arith)
+send-from-requires-2 c κs = (
+  let pre = c .before .before .before .before .before .before .before .pre in
+      aimed-inside _ _ _ (pre .0) _ (pre .1),
+  omega arith,
+)
 
 returns-2 : tie.Need-returns-2
-returns-2 c = part-sent _ _ _ _ _ _ _ _ _ _ _ (c .before .before .before .before .before .if1 .left) (c .before .before .before .before .before .before .before .before .before .before .pre .0 .size-is) (c .before .before .send-from2 .ensures)
+returns-2 c =
+    let back = c .before .before .before .before .before in let if1 = back .if1 in
+    let pre = back .before .before .before .before .before .pre in
+    part-sent _ _ _ _ _ _ _ _ _ _ _ (if1 .left) (pre .0 .size-is) (c .before .before .send-from2 .ensures)
 
 pub send-selected-spec : {M : Type 1} → statement M
 send-selected-spec =

@@ -10,22 +10,43 @@ use Rattle.writes.proofs.masks.apply_masks.Statement.{statement}
 use Rattle.writes.proofs.masks.apply_masks.Tie as tie
 
 abbrev Inv-loop : tie.InvT-loop
-Inv-loop memory₀ at ors ands j₀ memory j = (memory ≡ paste memory₀ at (masked (part memory₀ at (length ors)) ors ands) j) × (j ≤ length ors) × (length memory ≡ length memory₀)
+Inv-loop memory₀ at ors ands j₀ memory j =
+    (memory ≡ paste memory₀ at (masked (part memory₀ at (length ors)) ors ands) j) × (j ≤ length ors) ×
+    (length memory ≡ length memory₀)
 
 abbrev μ-loop : tie.MeasureT-loop
 μ-loop memory₀ at ors ands j₀ memory j = length ors - j
 
 loop-holds : tie.Need-loop-holds Inv-loop μ-loop
-loop-holds c = (paste-zero (c .before .before .before .args .memory .now) (c .before .before .before .args .at) (masked (part (c .before .before .before .args .memory .now) (c .before .before .before .args .at) (length (c .before .before .before .args .ors .now))) (c .before .before .before .args .ors .now) (c .before .before .before .args .ands .now)), search needs, refl)
+loop-holds c = (
+  let args = c .before .before .before .args in
+      paste-zero (args .memory .now) (args .at)
+      (masked (part (args .memory .now) (args .at) (length (args .ors .now))) (args .ors .now) (args .ands .now)),
+  search needs,
+  refl,
+)
 
 loop-again : tie.Need-loop-again Inv-loop μ-loop
-loop-again c = (mask-turn (c .before .before .before .before .before .before .before .before .before .args .memory .now) (c .before .before .before .before .before .before .before .before .before .args .at) (c .before .before .before .before .before .before .before .before .before .args .ors .now) (c .before .before .before .before .before .before .before .before .before .args .ands .now) (c .before .before .before .before .before .before .before .before .before .pre .0) (c .before .before .before .before .before .before .before .before .before .pre .1) _ _ (c .before .before .before .before .before .loop .inv .0) _ _ (c .before .before .before .before .loop-test .taken) (c .mask-byte .ensures) refl, search needs, simp length-set (c .before .before .before .before .before .loop .inv .2))
+loop-again c =
+    let loop-test = c .before .before .before .before .loop-test in
+    let loop = c .before .before .before .before .before .loop in
+    let args = c .before .before .before .before .before .before .before .before .before .args in
+    let pre = c .before .before .before .before .before .before .before .before .before .pre in (
+      mask-turn (args .memory .now) (args .at) (args .ors .now) (args .ands .now) (pre .0) (pre .1) _ _ (loop .inv .0) _
+          _ (loop-test .taken) (c .mask-byte .ensures) refl,
+      search needs,
+      simp length-set (loop .inv .2),
+    )
 
 same-length : tie.Need-same-length Inv-loop μ-loop
 same-length c = c .before .loop .inv .2
 
 returns : tie.Need-returns Inv-loop μ-loop
-returns c = mask-end (c .before .before .before .before .before .args .memory .now) (c .before .before .before .before .before .args .at) (c .before .before .before .before .before .args .ors .now) (c .before .before .before .before .before .args .ands .now) (c .before .before .before .before .before .pre .0) (c .before .before .before .before .before .pre .1) _ _ (c .before .loop .inv .0) (c .before .loop .inv .1) (c .loop-test .left)
+returns c =
+    let loop = c .before .loop in
+    let start = c .before .before .before .before .before in
+    mask-end (start .args .memory .now) (start .args .at) (start .args .ors .now) (start .args .ands .now)
+    (start .pre .0) (start .pre .1) _ _ (loop .inv .0) (loop .inv .1) (c .loop-test .left)
 
 pub apply-masks-spec : {M : Type 1} → statement M
 apply-masks-spec =

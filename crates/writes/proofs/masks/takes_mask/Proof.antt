@@ -11,7 +11,16 @@ returns c = search chain
 
 returns-2 : tie.Need-returns-2
 unfolding takesMask
-returns-2 c = rw (eq-eqb _ _ (c .before .before .before .before .if1 .left), ← (c .before .before .before .has-bits .ensures), c .before .before .if2 .taken, c .wide .ensures, c .before .atomic-size .ensures)
+returns-2 c =
+    let has-bits = c .before .before .before .has-bits in
+    let if1 = c .before .before .before .before .if1 in
+    rw (
+      eq-eqb _ _ (if1 .left),
+      ← (has-bits .ensures),
+      c .before .before .if2 .taken,
+      c .wide .ensures,
+      c .before .atomic-size .ensures,
+    )
 
 returns-3 : tie.Need-returns-3
 unfolding takesMask

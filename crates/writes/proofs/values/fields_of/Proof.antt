@@ -6,11 +6,28 @@ use Rattle.writes.proofs.values.fields_of.Statement.{statement}
 use Rattle.writes.proofs.values.fields_of.Tie as tie
 
 u16-at-requires-2 : tie.Need-u16-at-requires-2
-u16-at-requires-2 c κs = omega (arith, some-fields (c .before .before .before .before .args .service) (c .before .before .before .before .args .body .now))
+u16-at-requires-2 c κs =
+    let args = c .before .before .before .before .args in
+    omega (arith, some-fields (args .service) (args .body .now))
 
 returns : tie.Need-returns
 unfolding fieldsOf
-returns c = rw (c .before .before .before .before .before .code-of .ensures, c .before .before .before .before .before .before .u16-at .ensures, c .before .before .before .code-of2 .ensures, c .before .before .before .before .u16-at2 .ensures, c .before .wide16 .ensures, c .before .before .u16-at3 .ensures, c .offset-at .ensures, c .before .before .before .before .before .before .before .type-size .ensures)
+returns c =
+    let code-of2 = c .before .before .before .code-of2 in
+    let u16-at2 = c .before .before .before .before .u16-at2 in
+    let code-of = c .before .before .before .before .before .code-of in
+    let u16-at = c .before .before .before .before .before .before .u16-at in
+    let type-size = c .before .before .before .before .before .before .before .type-size in
+    rw (
+      code-of .ensures,
+      u16-at .ensures,
+      code-of2 .ensures,
+      u16-at2 .ensures,
+      c .before .wide16 .ensures,
+      c .before .before .u16-at3 .ensures,
+      c .offset-at .ensures,
+      type-size .ensures,
+    )
 
 pub fields-of-spec : {M : Type 1} → statement M
 fields-of-spec =

@@ -8,7 +8,15 @@ add-result : tie.Need-add-result
 add-result c = omega (arith, c .type-size .ensures, type-few (c .before .before .args .body .now))
 
 add-result-2 : tie.Need-add-result-2
-add-result-2 c = omega (arith, c .before .type-size .ensures, type-few (c .before .before .before .args .body .now), c .offset-size .ensures, offset-few (c .before .before .before .args .service))
+add-result-2 c =
+    let args = c .before .before .before .args in
+    omega (
+      arith,
+      c .before .type-size .ensures,
+      type-few (args .body .now),
+      c .offset-size .ensures,
+      offset-few (args .service),
+    )
 
 pub fields-size-spec : {M : Type 1} → statement M
 fields-size-spec =

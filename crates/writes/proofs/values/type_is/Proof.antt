@@ -11,7 +11,14 @@ returns-2 : tie.Need-returns-2
 returns-2 c = search chain
 
 returns-3 : tie.Need-returns-3
-returns-3 c = rw (le-leb _ _ (c .before .before .before .if1 .left), eq-eqb _ _ (c .before .before .if2 .left), ← (c .before .index-of .ensures), ← (c .structure-handle .ensures))
+returns-3 c =
+    let if1 = c .before .before .before .if1 in
+    rw (
+      le-leb _ _ (if1 .left),
+      eq-eqb _ _ (c .before .before .if2 .left),
+      ← (c .before .index-of .ensures),
+      ← (c .structure-handle .ensures),
+    )
 
 pub type-is-spec : {M : Type 1} → statement M
 type-is-spec =

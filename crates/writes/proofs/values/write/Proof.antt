@@ -12,13 +12,27 @@ returns-2 : tie.Need-returns-2
 returns-2 c = fields-short _ _ _ _ _ _ (c .before .fields-size .ensures) (c .if2 .taken)
 
 write-bit-requires : tie.Need-write-bit-requires
-write-bit-requires c κs = (aimed-first _ _ _ (c .before .before .before .before .before .before .before .before .before .before .pre), omega (arith, c .before .before .before .before .before .before .before .before .before .before .pre .bit))
+write-bit-requires c κs =
+    let pre = c .before .before .before .before .before .before .before .before .before .before .pre in
+    (aimed-first _ _ _ pre, omega (arith, pre .bit))
 
 returns-3 : tie.Need-returns-3
-returns-3 c = writes-bit _ _ _ _ _ _ (c .before .before .before .before .before .before .before .before .before .fields-size .ensures) _ (c .before .before .before .before .before .before .before .before .if2 .left) (c .before .before .before .before .before .before .before .fields-of .ensures) _ _ (c .before .before .before .before .before .if3 .taken) (c .before .before .write-bit .ensures)
+returns-3 c =
+    let back = c .before .before .before .before .before in let if3 = back .if3 in
+    let back = back .before .before in let fields-of = back .fields-of in
+    let if2 = back .before .if2 in
+    let fields-size = back .before .before .fields-size in
+    writes-bit _ _ _ _ _ _ (fields-size .ensures) _ (if2 .left) (fields-of .ensures) _ _ (if3 .taken)
+    (c .before .before .write-bit .ensures)
 
 returns-4 : tie.Need-returns-4
-returns-4 c = writes-value _ _ _ _ _ _ (c .before .before .before .before .before .before .before .before .before .fields-size .ensures) _ (c .before .before .before .before .before .before .before .before .if2 .left) (c .before .before .before .before .before .before .before .fields-of .ensures) _ _ (c .before .before .before .before .before .if3 .left) (c .before .before .write-value .ensures)
+returns-4 c =
+    let back = c .before .before .before .before .before in let if3 = back .if3 in
+    let back = back .before .before in let fields-of = back .fields-of in
+    let if2 = back .before .if2 in
+    let fields-size = back .before .before .fields-size in
+    writes-value _ _ _ _ _ _ (fields-size .ensures) _ (if2 .left) (fields-of .ensures) _ _ (if3 .left)
+    (c .before .before .write-value .ensures)
 
 pub write-spec : {M : Type 1} → statement M
 write-spec =

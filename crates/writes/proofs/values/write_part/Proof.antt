@@ -15,11 +15,17 @@ returns c = refuses _ _ _ _ (search chain) refl
 
 returns-2 : tie.Need-returns-2
 unfolding writePart
-returns-2 c = refuses _ _ _ _ (let h : c .before .before .before .before .before .before .before .args .total < c .before .before .before .before .before .before .before .args .w .offset + length (c .before .before .before .before .before .before .before .args .value .now) = omega arith in search chain) refl
+returns-2 c =
+    let args = c .before .before .before .before .before .before .before .args in
+    refuses _ _ _ _ (let h : args .total < args .w .offset + length (args .value .now) = omega arith in search chain)
+    refl
 
 returns-3 : tie.Need-returns-3
 unfolding writePart
-returns-3 c = puts _ _ _ _ _ (let h : c .before .before .before .before .before .before .before .before .before .before .before .before .args .w .offset + length (c .before .before .before .before .before .before .before .before .before .before .before .before .args .value .now) ≤ c .before .before .before .before .before .before .before .before .before .before .before .before .args .total = omega arith in search chain) (c .before .before .copy-into .ensures)
+returns-3 c =
+    let args = c .before .before .before .before .before .before .before .before .before .before .before .before .args in
+    puts _ _ _ _ _ (let h : args .w .offset + length (args .value .now) ≤ args .total = omega arith in search chain)
+    (c .before .before .copy-into .ensures)
 
 returns-4 : tie.Need-returns-4
 unfolding writePart

@@ -17,13 +17,25 @@ unfolding writeValue typeMatches
 returns-2 c = refuses _ _ _ _ (search (chain, pick-yes-by)) refl
 
 mul-total : tie.Need-mul-total
-mul-total c = omega (arith, aimed-inside _ _ _ (c .before .before .before .before .before .before .before .before .before .before .before .pre) _ (c .before .before .if3 .left), c .before .before .before .before .before .before .before .before .before .before .before .pre .small-memory)
+mul-total c =
+    let pre = c .before .before .before .before .before .before .before .before .before .before .before .pre in
+    omega (arith, aimed-inside _ _ _ pre _ (c .before .before .if3 .left), pre .small-memory)
 
 write-part-requires : tie.Need-write-part-requires
-write-part-requires c κs = aimed-inside _ _ _ (c .before .before .before .before .before .before .before .before .before .before .before .before .pre) _ (c .before .before .before .if3 .left)
+write-part-requires c κs =
+    let if3 = c .before .before .before .if3 in
+    let pre = c .before .before .before .before .before .before .before .before .before .before .before .before .pre in
+    aimed-inside _ _ _ pre _ (if3 .left)
 
 returns-3 : tie.Need-returns-3
-returns-3 c = puts-part _ _ _ _ _ _ _ _ _ (c .before .before .before .before .before .before .before .before .before .before .before .before .type-is .ensures) (c .before .before .before .before .before .before .before .before .before .before .before .if1 .taken) (c .before .before .before .before .before .before .before .before .before .if2 .left) (c .before .before .before .before .before .before .if3 .left) (c .before .before .before .before .before .before .before .before .before .before .before .before .before .before .before .pre .size-is) (c .before .before .write-part .ensures)
+returns-3 c =
+    let back = c .before .before .before .before .before .before in let if3 = back .if3 in
+    let back = back .before .before .before in let if2 = back .if2 in
+    let back = back .before .before in let if1 = back .if1 in
+    let type-is = back .before .type-is in
+    let pre = back .before .before .before .before .pre in
+    puts-part _ _ _ _ _ _ _ _ _ (type-is .ensures) (if1 .taken) (if2 .left) (if3 .left) (pre .size-is)
+    (c .before .before .write-part .ensures)
 
 returns-4 : tie.Need-returns-4
 unfolding writeValue typeMatches
