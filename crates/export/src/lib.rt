@@ -89,7 +89,9 @@ pub extern "C" fn ciplink_valid(
     templates: &[u8],
     memory: &[u8],
 ) -> u32
-    ensures { λ r. ⌜ r ≡ pick (valid (tablesOf (now (structures .entry)) (now (members .entry)) (now (programs .entry)) (now (tags .entry)) (now (others .entry)) (now (names .entry)) (now («tag_names» .entry)) (now (templates .entry))) (length (now (memory .entry)))) 1 0 ⌝ }
+    ensures { λ r. let t = tablesOf (now (structures .entry)) (now (members .entry)) (now (programs .entry)) (now (tags .entry))
+        (now (others .entry)) (now (names .entry)) (now («tag_names» .entry)) (now (templates .entry)) in
+        ⌜ r ≡ pick (valid t (length (now (memory .entry)))) 1 0 ⌝ }
 {
     if tables::valid(
         structures,
@@ -180,8 +182,12 @@ pub extern "C" fn ciplink_answer(
     limit: usize,
     buf: &mut [u8],
 ) -> u64
-    requires { ⌜ (length (now request) ≤ 65535) × (limit ≤ 65535) × (room limit ≤ length (now buf)) × (valid (tablesOf (now structures) (now members) (now programs) (now tags) (now others) (now names) (now «tag_names») (now templates)) (length (now memory)) ≡ true) ⌝ }
-    ensures { λ r. ⌜ Answers limit (answer (tablesOf (now (structures .entry)) (now (members .entry)) (now (programs .entry)) (now (tags .entry)) (now (others .entry)) (now (names .entry)) (now («tag_names» .entry)) (now (templates .entry))) (flagsIn flags) (now (memory .entry)) (now (request .entry)) limit) (now (buf .entry)) r (now (buf .exit)) (now (memory .exit)) ⌝ }
+    requires { let t = tablesOf (now structures) (now members) (now programs) (now tags) (now others) (now names) (now «tag_names») (now templates) in
+        ⌜ (length (now request) ≤ 65535) × (limit ≤ 65535) × (room limit ≤ length (now buf)) × (valid t (length (now memory)) ≡ true) ⌝ }
+    ensures { λ r. let t = tablesOf (now (structures .entry)) (now (members .entry)) (now (programs .entry)) (now (tags .entry))
+        (now (others .entry)) (now (names .entry)) (now («tag_names» .entry)) (now (templates .entry)) in
+        ⌜ Answers limit (answer t (flagsIn flags) (now (memory .entry)) (now (request .entry)) limit) (now (buf .entry)) r (now (buf .exit))
+        (now (memory .exit)) ⌝ }
 {
     long(logix::entry::answer(
         structures,
@@ -217,7 +223,10 @@ pub extern "C" fn ciplink_message(
     limit: usize,
     buf: &mut [u8],
 ) -> u64
-    ensures { λ r. ⌜ ToldReply (entry (tablesOf (now (structures .entry)) (now (members .entry)) (now (programs .entry)) (now (tags .entry)) (now (others .entry)) (now (names .entry)) (now («tag_names» .entry)) (now (templates .entry))) (flagsIn flags) (now (memory .entry)) (now (request .entry)) limit (now (buf .entry))) r (now (buf .exit)) (now (memory .exit)) ⌝ }
+    ensures { λ r. let t = tablesOf (now (structures .entry)) (now (members .entry)) (now (programs .entry)) (now (tags .entry))
+        (now (others .entry)) (now (names .entry)) (now («tag_names» .entry)) (now (templates .entry)) in
+        ⌜ ToldReply (entry t (flagsIn flags) (now (memory .entry)) (now (request .entry)) limit (now (buf .entry))) r (now (buf .exit))
+        (now (memory .exit)) ⌝ }
 {
     match logix::entry::message(
         structures,
@@ -260,7 +269,8 @@ pub extern "C" fn ciplink_read_whole(
 ) -> u64
     ensures { λ r. let t = tablesOf (now (structures .entry)) (now (members .entry)) (now (programs .entry)) (now (tags .entry))
         (now (others .entry)) (now (names .entry)) (now («tag_names» .entry)) (now (templates .entry)) in
-        ⌜ ToldWhole (wholeRead t (flagsIn flags) (now (memory .entry)) (now (path .entry)) elements limit (now (buf .entry)) (now (out .entry))) r (now (out .exit)) (now (buf .exit)) × (now (memory .exit) ≡ now (memory .entry)) ⌝ }
+        ⌜ ToldWhole (wholeRead t (flagsIn flags) (now (memory .entry)) (now (path .entry)) elements limit (now (buf .entry)) (now (out .entry))) r
+        (now (out .exit)) (now (buf .exit)) × (now (memory .exit) ≡ now (memory .entry)) ⌝ }
 {
     whole_code(pallet::read_whole(
         structures,

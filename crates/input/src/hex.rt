@@ -145,7 +145,8 @@ fn fault_of(b: u16) -> Fault
 /// The bytes of the text from a position on, into the request's buffer.
 fn bytes(text: &[u8], start: usize, limit: usize, request: &mut [u8]) -> Line
     requires { ⌜ (start ≤ length (now text)) × (limit ≤ 65535) ⌝ }
-    ensures { λ r. ⌜ Reads (bytesIn limit (length (now (request .entry))) 0 (drop start (now (text .entry)))) (now (request .entry)) r (now (request .exit)) ⌝ }
+    ensures { λ r. ⌜ Reads (bytesIn limit (length (now (request .entry))) 0 (drop start (now (text .entry)))) (now (request .entry)) r
+        (now (request .exit)) ⌝ }
 {
     let mut at = scan(text, start, false);
     let mut n = 0;

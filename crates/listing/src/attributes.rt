@@ -150,8 +150,10 @@ fn list_size(o: Object, body: &[u8], n: usize) -> usize
 
 /// All entries, which fit; returns where they end.
 fn put_list(buf: &mut [u8], at: usize, o: Object, body: &[u8], n: usize) -> usize
-    requires { ⌜ (2 + 2 * n ≤ length (now body)) × (at + length (attributeEntries (objectValue o) (numbers n (drop 2 (now body)))) ≤ length (now buf)) ⌝ }
-    ensures { λ r. ⌜ (r ≡ at + length (attributeEntries (objectValue o) (numbers n (drop 2 (now (body .entry)))))) × (now (buf .exit) ≡ put (now (buf .entry)) at (attributeEntries (objectValue o) (numbers n (drop 2 (now (body .entry)))))) ⌝ }
+    requires { ⌜ (2 + 2 * n ≤ length (now body)) × (at + length (attributeEntries (objectValue o) (numbers n (drop 2 (now body)))) ≤ length
+        (now buf)) ⌝ }
+    ensures { λ r. ⌜ (r ≡ at + length (attributeEntries (objectValue o) (numbers n (drop 2 (now (body .entry))))))
+        × (now (buf .exit) ≡ put (now (buf .entry)) at (attributeEntries (objectValue o) (numbers n (drop 2 (now (body .entry)))))) ⌝ }
 {
     let mut used = at;
     let mut i = 0;
@@ -165,8 +167,10 @@ fn put_list(buf: &mut [u8], at: usize, o: Object, body: &[u8], n: usize) -> usiz
 
 /// A reply of so many entries, which fits.
 fn send_list(o: Object, service: u8, body: &[u8], n: usize, limit: usize, buf: &mut [u8]) -> usize
-    requires { ⌜ (2 + 2 * n ≤ length (now body)) × (n ≤ 65535) × (room limit ≤ length (now buf)) × (6 + length (attributeEntries (objectValue o) (numbers n (drop 2 (now body)))) ≤ limit) ⌝ }
-    ensures { λ r. ⌜ Laid limit (reply service success (le16 n ++ attributeEntries (objectValue o) (numbers n (drop 2 (now (body .entry)))))) (now (buf .entry)) r (now (buf .exit)) ⌝ }
+    requires { ⌜ (2 + 2 * n ≤ length (now body)) × (n ≤ 65535) × (room limit ≤ length (now buf))
+        × (6 + length (attributeEntries (objectValue o) (numbers n (drop 2 (now body)))) ≤ limit) ⌝ }
+    ensures { λ r. ⌜ Laid limit (reply service success (le16 n ++ attributeEntries (objectValue o) (numbers n (drop 2 (now (body .entry))))))
+        (now (buf .entry)) r (now (buf .exit)) ⌝ }
 {
     cip::put_header(buf, service, Status::Success);
     cip::put_u16(buf, 4, replies::word_of(n));
@@ -177,7 +181,8 @@ fn send_list(o: Object, service: u8, body: &[u8], n: usize, limit: usize, buf: &
 /// The attributes that a body asks for; 0x11 instead of a reply that exceeds the limit.
 fn attribute_list(o: Object, service: u8, body: &[u8], limit: usize, buf: &mut [u8]) -> usize
     requires { ⌜ room limit ≤ length (now buf) ⌝ }
-    ensures { λ r. ⌜ Laid limit (capped service limit (listReply service (objectValue o) (counted (now (body .entry))))) (now (buf .entry)) r (now (buf .exit)) ⌝ }
+    ensures { λ r. ⌜ Laid limit (capped service limit (listReply service (objectValue o) (counted (now (body .entry))))) (now (buf .entry)) r
+        (now (buf .exit)) ⌝ }
 {
     let Count::Of(count) = count_of(body) else {
         return replies::refuse(service, Status::TooShort, limit, buf);
@@ -199,7 +204,8 @@ pub fn structure_attributes(
     buf: &mut [u8],
 ) -> usize
     requires { ⌜ room limit ≤ length (now buf) ⌝ }
-    ensures { λ r. ⌜ Laid limit (capped service limit (structureAttributes (now (structures .entry)) service id (now (body .entry)))) (now (buf .entry)) r (now (buf .exit)) ⌝ }
+    ensures { λ r. ⌜ Laid limit (capped service limit (structureAttributes (now (structures .entry)) service id (now (body .entry))))
+        (now (buf .entry)) r (now (buf .exit)) ⌝ }
 {
     match model::lookup::find_template(structures, id) {
         Found::At(i) => attribute_list(structure_of(&structures[i]), service, body, limit, buf),
@@ -237,7 +243,8 @@ fn tag_attributes(
     buf: &mut [u8],
 ) -> usize
     requires { ⌜ room limit ≤ length (now buf) ⌝ }
-    ensures { λ r. ⌜ Laid limit (capped service limit (tagList (now (tags .entry)) service id (now (body .entry)))) (now (buf .entry)) r (now (buf .exit)) ⌝ }
+    ensures { λ r. ⌜ Laid limit (capped service limit (tagList (now (tags .entry)) service id (now (body .entry)))) (now (buf .entry)) r
+        (now (buf .exit)) ⌝ }
 {
     match model::lookup::find_tag_id(tags, 0, id) {
         Found::At(_) => attribute_list(Object::Plain, service, body, limit, buf),
@@ -258,7 +265,8 @@ pub fn symbol_attributes(
     buf: &mut [u8],
 ) -> usize
     requires { ⌜ room limit ≤ length (now buf) ⌝ }
-    ensures { λ r. ⌜ WithSymbols (now (programs .entry)) (now (tags .entry)) (now (others .entry)) (now (names .entry)) (λ t. Laid limit (capped service limit (symbolAttributes t service id (now (body .entry)))) (now (buf .entry)) r (now (buf .exit))) ⌝ }
+    ensures { λ r. ⌜ WithSymbols (now (programs .entry)) (now (tags .entry)) (now (others .entry)) (now (names .entry))
+        (λ t. Laid limit (capped service limit (symbolAttributes t service id (now (body .entry)))) (now (buf .entry)) r (now (buf .exit))) ⌝ }
 {
     match model::lookup::find_other_id(others, 0, id) {
         Found::At(i) => {

@@ -111,8 +111,10 @@ pub fn put_attributes(
     body: &[u8],
     n: usize,
 ) -> usize
-    requires { ⌜ (2 + 2 * n ≤ length (now body)) × (at + length (attributesOf (made (now name) s) (numbers n (drop 2 (now body)))) ≤ length (now buf)) ⌝ }
-    ensures { λ r. ⌜ (r ≡ at + length (attributesOf (made (now (name .entry)) s) (numbers n (drop 2 (now (body .entry)))))) × (now (buf .exit) ≡ put (now (buf .entry)) at (attributesOf (made (now (name .entry)) s) (numbers n (drop 2 (now (body .entry)))))) ⌝ }
+    requires { ⌜ (2 + 2 * n ≤ length (now body)) × (at + length (attributesOf (made (now name) s) (numbers n (drop 2 (now body)))) ≤ length
+        (now buf)) ⌝ }
+    ensures { λ r. ⌜ (r ≡ at + length (attributesOf (made (now (name .entry)) s) (numbers n (drop 2 (now (body .entry))))))
+        × (now (buf .exit) ≡ put (now (buf .entry)) at (attributesOf (made (now (name .entry)) s) (numbers n (drop 2 (now (body .entry)))))) ⌝ }
 {
     let mut used = at;
     let mut i = 0;

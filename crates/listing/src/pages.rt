@@ -93,7 +93,8 @@ pub fn entry_step(
     buf: &mut [u8],
 ) -> Step
     requires { ⌜ (2 + 2 * n ≤ length (now body)) × (n ≤ 65535) × (length (now name) ≤ 4294967295) × (used ≤ limit) × (limit ≤ length (now buf)) ⌝ }
-    ensures { λ r. ⌜ Entered (le32 (s .id) ++ attributesOf (made (now (name .entry)) s) (numbers n (drop 2 (now (body .entry))))) limit used id (now (buf .entry)) r (now (buf .exit)) × Further used limit r ⌝ }
+    ensures { λ r. ⌜ Entered (le32 (s .id) ++ attributesOf (made (now (name .entry)) s) (numbers n (drop 2 (now (body .entry))))) limit used id
+        (now (buf .entry)) r (now (buf .exit)) × Further used limit r ⌝ }
 {
     let size = entries::entry_size(name, s, body, n);
     if limit - used < size {
@@ -144,8 +145,11 @@ pub fn page_step(
     used: usize,
     buf: &mut [u8],
 ) -> Step
-    requires { ⌜ SomeValid (now structures) (now tags) (now others) (now names) (now «tag_names») × (2 + 2 * n ≤ length (now body)) × (n ≤ 65535) × (used ≤ limit) × (limit ≤ length (now buf)) ⌝ }
-    ensures { λ r. ⌜ EachValid (now (structures .entry)) (now (tags .entry)) (now (others .entry)) (now (names .entry)) (now («tag_names» .entry)) (λ t. Stepped t scope (numbers n (drop 2 (now (body .entry)))) limit used bound (now (buf .entry)) r (now (buf .exit))) × Further used limit r ⌝ }
+    requires { ⌜ SomeValid (now structures) (now tags) (now others) (now names) (now «tag_names») × (2 + 2 * n ≤ length (now body)) × (n ≤ 65535)
+        × (used ≤ limit) × (limit ≤ length (now buf)) ⌝ }
+    ensures { λ r. ⌜ EachValid (now (structures .entry)) (now (tags .entry)) (now (others .entry)) (now (names .entry)) (now («tag_names» .entry))
+        (λ t. Stepped t scope (numbers n (drop 2 (now (body .entry)))) limit used bound (now (buf .entry)) r (now (buf .exit)))
+        × Further used limit r ⌝ }
 {
     match next_near(tags, others, scope, bound, hint) {
         Next::Tag(i, id) => {
@@ -226,8 +230,11 @@ pub fn put_page(
     limit: usize,
     buf: &mut [u8],
 ) -> usize
-    requires { ⌜ SomeValid (now structures) (now tags) (now others) (now names) (now «tag_names») × (2 + 2 * n ≤ length (now body)) × (n ≤ 65535) × (room limit ≤ length (now buf)) ⌝ }
-    ensures { λ r. ⌜ EachValid (now (structures .entry)) (now (tags .entry)) (now (others .entry)) (now (names .entry)) (now («tag_names» .entry)) (λ t. Laid limit (pageReply service (due t scope (numbers n (drop 2 (now (body .entry)))) start) limit) (now (buf .entry)) r (now (buf .exit))) ⌝ }
+    requires { ⌜ SomeValid (now structures) (now tags) (now others) (now names) (now «tag_names») × (2 + 2 * n ≤ length (now body)) × (n ≤ 65535)
+        × (room limit ≤ length (now buf)) ⌝ }
+    ensures { λ r. ⌜ EachValid (now (structures .entry)) (now (tags .entry)) (now (others .entry)) (now (names .entry)) (now («tag_names» .entry))
+        (λ t. Laid limit (pageReply service (due t scope (numbers n (drop 2 (now (body .entry)))) start) limit) (now (buf .entry)) r
+        (now (buf .exit))) ⌝ }
 {
     let end = end_of(limit);
     let mut used = replies::HEADER;

@@ -98,8 +98,10 @@ pub fn list_symbols(
     limit: usize,
     buf: &mut [u8],
 ) -> usize
-    requires { ⌜ (isSome (segments (now path)) ≡ true) × SomeListed (now structures) (now programs) (now tags) (now others) (now names) (now «tag_names») × (room limit ≤ length (now buf)) ⌝ }
-    ensures { λ r. ⌜ Lists (now (structures .entry)) (now (programs .entry)) (now (tags .entry)) (now (others .entry)) (now (names .entry)) (now («tag_names» .entry)) service (now (path .entry)) (now (body .entry)) limit (now (buf .entry)) r (now (buf .exit)) ⌝ }
+    requires { ⌜ (isSome (segments (now path)) ≡ true) × SomeListed (now structures) (now programs) (now tags) (now others) (now names)
+        (now «tag_names») × (room limit ≤ length (now buf)) ⌝ }
+    ensures { λ r. ⌜ Lists (now (structures .entry)) (now (programs .entry)) (now (tags .entry)) (now (others .entry)) (now (names .entry))
+        (now («tag_names» .entry)) service (now (path .entry)) (now (body .entry)) limit (now (buf .entry)) r (now (buf .exit)) ⌝ }
 {
     let Begin::From(scope, start) = page_start(programs, names, path) else {
         return cip::fail(buf, limit, service, Status::PathUnknown);

@@ -71,7 +71,8 @@ fn template_reply<'a>(
     buf: &mut [u8],
 ) -> usize
     requires { ⌜ (start + size ≤ length (now templates)) × (room limit ≤ length (now buf)) ⌝ }
-    ensures { λ r. ⌜ Laid limit (templateAsked (now (templates .entry)) start size service (now (body .entry)) limit) (now (buf .entry)) r (now (buf .exit)) ⌝ }
+    ensures { λ r. ⌜ Laid limit (templateAsked (now (templates .entry)) start size service (now (body .entry)) limit) (now (buf .entry)) r
+        (now (buf .exit)) ⌝ }
 {
     if body.len() < 6 {
         return cip::fail(buf, limit, service, Status::TooShort);
@@ -106,7 +107,9 @@ pub fn read_template<'a>(
     buf: &mut [u8],
 ) -> usize
     requires { ⌜ InStore (length (now templates)) (now structures) × (room limit ≤ length (now buf)) ⌝ }
-    ensures { λ r. ⌜ WithTemplates (now (structures .entry)) (now (templates .entry)) (λ t. Laid limit (readTemplate t service (templateIn (now (structures .entry)) id) (now (body .entry)) limit) (now (buf .entry)) r (now (buf .exit))) ⌝ }
+    ensures { λ r. ⌜ WithTemplates (now (structures .entry)) (now (templates .entry))
+        (λ t. Laid limit (readTemplate t service (templateIn (now (structures .entry)) id) (now (body .entry)) limit) (now (buf .entry)) r
+        (now (buf .exit))) ⌝ }
 {
     match model::lookup::find_template(structures, id) {
         Found::At(i) => template_reply(

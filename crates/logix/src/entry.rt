@@ -44,8 +44,12 @@ pub fn answer(
     limit: usize,
     buf: &mut [u8],
 ) -> usize
-    requires { ⌜ (length (now request) ≤ 65535) × (limit ≤ 65535) × (room limit ≤ length (now buf)) × (valid (tablesOf (now structures) (now members) (now programs) (now tags) (now others) (now names) (now «tag_names») (now templates)) (length (now memory)) ≡ true) ⌝ }
-    ensures { λ r. ⌜ Answers limit (answerOf (tablesOf (now (structures .entry)) (now (members .entry)) (now (programs .entry)) (now (tags .entry)) (now (others .entry)) (now (names .entry)) (now («tag_names» .entry)) (now (templates .entry))) (flagsOf flags) (now (memory .entry)) (now (request .entry)) limit) (now (buf .entry)) r (now (buf .exit)) (now (memory .exit)) ⌝ }
+    requires { let t = tablesOf (now structures) (now members) (now programs) (now tags) (now others) (now names) (now «tag_names») (now templates) in
+        ⌜ (length (now request) ≤ 65535) × (limit ≤ 65535) × (room limit ≤ length (now buf)) × (valid t (length (now memory)) ≡ true) ⌝ }
+    ensures { λ r. let t = tablesOf (now (structures .entry)) (now (members .entry)) (now (programs .entry)) (now (tags .entry))
+        (now (others .entry)) (now (names .entry)) (now («tag_names» .entry)) (now (templates .entry)) in
+        ⌜ Answers limit (answerOf t (flagsOf flags) (now (memory .entry)) (now (request .entry)) limit) (now (buf .entry)) r (now (buf .exit))
+        (now (memory .exit)) ⌝ }
 {
     crate::dispatch(
         structures,
@@ -80,7 +84,10 @@ pub fn message(
     limit: usize,
     buf: &mut [u8],
 ) -> Outcome
-    ensures { λ r. ⌜ Enters (entryOf (tablesOf (now (structures .entry)) (now (members .entry)) (now (programs .entry)) (now (tags .entry)) (now (others .entry)) (now (names .entry)) (now («tag_names» .entry)) (now (templates .entry))) (flagsOf flags) (now (memory .entry)) (now (request .entry)) limit (now (buf .entry))) r (now (buf .exit)) (now (memory .exit)) ⌝ }
+    ensures { λ r. let t = tablesOf (now (structures .entry)) (now (members .entry)) (now (programs .entry)) (now (tags .entry))
+        (now (others .entry)) (now (names .entry)) (now («tag_names» .entry)) (now (templates .entry)) in
+        ⌜ Enters (entryOf t (flagsOf flags) (now (memory .entry)) (now (request .entry)) limit (now (buf .entry))) r (now (buf .exit))
+        (now (memory .exit)) ⌝ }
 {
     if request.len() > MOST {
         return Outcome::Refused(Refusal::RequestTooLong);

@@ -34,8 +34,12 @@ pub fn dispatch(
     limit: usize,
     buf: &mut [u8],
 ) -> usize
-    requires { ⌜ (valid (tablesOf (now structures) (now members) (now programs) (now tags) (now others) (now names) (now «tag_names») (now templates)) (length (now memory)) ≡ true) × (limit ≤ 65535) × (room limit ≤ length (now buf)) ⌝ }
-    ensures { λ r. ⌜ Answers limit (answer (tablesOf (now (structures .entry)) (now (members .entry)) (now (programs .entry)) (now (tags .entry)) (now (others .entry)) (now (names .entry)) (now («tag_names» .entry)) (now (templates .entry))) (flagsOf flags) (now (memory .entry)) (now (message .entry)) limit) (now (buf .entry)) r (now (buf .exit)) (now (memory .exit)) ⌝ }
+    requires { let t = tablesOf (now structures) (now members) (now programs) (now tags) (now others) (now names) (now «tag_names») (now templates) in
+        ⌜ (valid t (length (now memory)) ≡ true) × (limit ≤ 65535) × (room limit ≤ length (now buf)) ⌝ }
+    ensures { λ r. let t = tablesOf (now (structures .entry)) (now (members .entry)) (now (programs .entry)) (now (tags .entry))
+        (now (others .entry)) (now (names .entry)) (now («tag_names» .entry)) (now (templates .entry)) in
+        ⌜ Answers limit (answer t (flagsOf flags) (now (memory .entry)) (now (message .entry)) limit) (now (buf .entry)) r (now (buf .exit))
+        (now (memory .exit)) ⌝ }
 {
     let Split::Path(size) = path::split_request(message) else {
         return cip::fail(buf, limit, parts::first_of(message), Status::PathError);
@@ -95,8 +99,12 @@ fn multi_service(
     limit: usize,
     buf: &mut [u8],
 ) -> usize
-    requires { ⌜ (valid (tablesOf (now structures) (now members) (now programs) (now tags) (now others) (now names) (now «tag_names») (now templates)) (length (now memory)) ≡ true) × (limit ≤ 65535) × (room limit ≤ length (now buf)) ⌝ }
-    ensures { λ r. ⌜ Answers limit (envelope (flagsOf flags) (partDispatch (tablesOf (now (structures .entry)) (now (members .entry)) (now (programs .entry)) (now (tags .entry)) (now (others .entry)) (now (names .entry)) (now («tag_names» .entry)) (now (templates .entry))) (flagsOf flags)) (now (memory .entry)) (now (body .entry)) limit) (now (buf .entry)) r (now (buf .exit)) (now (memory .exit)) ⌝ }
+    requires { let t = tablesOf (now structures) (now members) (now programs) (now tags) (now others) (now names) (now «tag_names») (now templates) in
+        ⌜ (valid t (length (now memory)) ≡ true) × (limit ≤ 65535) × (room limit ≤ length (now buf)) ⌝ }
+    ensures { λ r. let t = tablesOf (now (structures .entry)) (now (members .entry)) (now (programs .entry)) (now (tags .entry))
+        (now (others .entry)) (now (names .entry)) (now («tag_names» .entry)) (now (templates .entry)) in
+        ⌜ Answers limit (envelope (flagsOf flags) (partDispatch t (flagsOf flags)) (now (memory .entry)) (now (body .entry)) limit)
+        (now (buf .entry)) r (now (buf .exit)) (now (memory .exit)) ⌝ }
 {
     if !parts::takes_envelopes(flags) {
         return cip::fail(buf, limit, parts::ENVELOPE, Status::NotSupported);
@@ -153,8 +161,12 @@ fn part(
     used: usize,
     buf: &mut [u8],
 ) -> PartReply
-    requires { ⌜ (valid (tablesOf (now structures) (now members) (now programs) (now tags) (now others) (now names) (now «tag_names») (now templates)) (length (now memory)) ≡ true) × (limit ≤ 65535) × (budget ≤ limit - used) × (room limit ≤ length (now buf)) ⌝ }
-    ensures { λ r. ⌜ PartAnswers (partAnswer (partDispatch (tablesOf (now (structures .entry)) (now (members .entry)) (now (programs .entry)) (now (tags .entry)) (now (others .entry)) (now (names .entry)) (now («tag_names» .entry)) (now (templates .entry))) (flagsOf flags)) (now (memory .entry)) (now (p .entry)) budget) budget limit used (now (buf .entry)) r (now (buf .exit)) (now (memory .exit)) ⌝ }
+    requires { let t = tablesOf (now structures) (now members) (now programs) (now tags) (now others) (now names) (now «tag_names») (now templates) in
+        ⌜ (valid t (length (now memory)) ≡ true) × (limit ≤ 65535) × (budget ≤ limit - used) × (room limit ≤ length (now buf)) ⌝ }
+    ensures { λ r. let t = tablesOf (now (structures .entry)) (now (members .entry)) (now (programs .entry)) (now (tags .entry))
+        (now (others .entry)) (now (names .entry)) (now («tag_names» .entry)) (now (templates .entry)) in
+        ⌜ PartAnswers (partAnswer (partDispatch t (flagsOf flags)) (now (memory .entry)) (now (p .entry)) budget) budget limit used
+        (now (buf .entry)) r (now (buf .exit)) (now (memory .exit)) ⌝ }
 {
     if parts::first_of(p) == parts::ENVELOPE {
         return parts::refuse_part(buf, limit, used);

@@ -36,7 +36,8 @@ pub fn first_status(
     limit: usize,
     buf: &mut [u8],
 ) -> u8
-    requires { ⌜ Sendable (tablesOf (now structures) (now members) (now programs) (now tags) (now others) (now names) (now «tag_names») (now templates)) (now memory) (now path) limit (length (now buf)) ⌝ }
+    requires { let t = tablesOf (now structures) (now members) (now programs) (now tags) (now others) (now names) (now «tag_names») (now templates) in
+        ⌜ Sendable t (now memory) (now path) limit (length (now buf)) ⌝ }
     ensures { λ r. let t = tablesOf (now (structures .entry)) (now (members .entry)) (now (programs .entry)) (now (tags .entry))
         (now (others .entry)) (now (names .entry)) (now («tag_names» .entry)) (now (templates .entry)) in
         let first = firstReply t (flagsOf flags) (now (memory .entry)) (now (path .entry)) elements limit in
@@ -82,12 +83,15 @@ fn join_part(
     header: usize,
     got: usize,
 ) -> Turn
-    requires { ⌜ Sendable (tablesOf (now structures) (now members) (now programs) (now tags) (now others) (now names) (now «tag_names») (now templates)) (now memory) (now path) limit (length (now buf)) × Joinable (tablesOf (now structures) (now members) (now programs) (now tags) (now others) (now names) (now «tag_names») (now templates)) (flagsOf flags) (now memory) (now path) elements limit header (length (now out)) × (got < length (chosenBytes (now memory) (chosen (tablesOf (now structures) (now members) (now programs) (now tags) (now others) (now names) (now «tag_names») (now templates)) (flagsOf flags) (now path) elements))) ⌝ }
+    requires { let t = tablesOf (now structures) (now members) (now programs) (now tags) (now others) (now names) (now «tag_names») (now templates) in
+        ⌜ Sendable t (now memory) (now path) limit (length (now buf)) × Joinable t (flagsOf flags) (now memory) (now path) elements limit header
+        (length (now out)) × (got < length (chosenBytes (now memory) (chosen t (flagsOf flags) (now path) elements))) ⌝ }
     ensures { λ r. let t = tablesOf (now (structures .entry)) (now (members .entry)) (now (programs .entry)) (now (tags .entry))
         (now (others .entry)) (now (names .entry)) (now («tag_names» .entry)) (now (templates .entry)) in
         let selected = chosenBytes (now (memory .entry)) (chosen t (flagsOf flags) (now (path .entry)) elements) in
         let sent = answer t (flagsOf flags) (now (memory .entry)) (readRequest (now (path .entry)) elements got) limit .reply in
-        ⌜ Brings (space header limit) selected got (now (out .entry)) r (now (out .exit)) × (now (memory .exit) ≡ now (memory .entry)) × (now (buf .exit) ≡ laid (room limit) (now (buf .entry)) sent) ⌝ }
+        ⌜ Brings (space header limit) selected got (now (out .entry)) r (now (out .exit)) × (now (memory .exit) ≡ now (memory .entry))
+        × (now (buf .exit) ≡ laid (room limit) (now (buf .entry)) sent) ⌝ }
 {
     let n = crate::requests::send_read(
         structures,
@@ -134,11 +138,14 @@ pub fn join_all(
     out: &mut [u8],
     header: usize,
 ) -> usize
-    requires { ⌜ Sendable (tablesOf (now structures) (now members) (now programs) (now tags) (now others) (now names) (now «tag_names») (now templates)) (now memory) (now path) limit (length (now buf)) × Joinable (tablesOf (now structures) (now members) (now programs) (now tags) (now others) (now names) (now «tag_names») (now templates)) (flagsOf flags) (now memory) (now path) elements limit header (length (now out)) ⌝ }
+    requires { let t = tablesOf (now structures) (now members) (now programs) (now tags) (now others) (now names) (now «tag_names») (now templates) in
+        ⌜ Sendable t (now memory) (now path) limit (length (now buf)) × Joinable t (flagsOf flags) (now memory) (now path) elements limit header
+        (length (now out)) ⌝ }
     ensures { λ r. let t = tablesOf (now (structures .entry)) (now (members .entry)) (now (programs .entry)) (now (tags .entry))
         (now (others .entry)) (now (names .entry)) (now («tag_names» .entry)) (now (templates .entry)) in
         let o = chosen t (flagsOf flags) (now (path .entry)) elements in
-        ⌜ Written 0 (chosenBytes (now (memory .entry)) o) (now (out .entry)) r (now (out .exit)) × (now (memory .exit) ≡ now (memory .entry)) × (now (buf .exit) ≡ laid (room limit) (now (buf .entry)) (lastOf (now (memory .entry)) limit o)) ⌝ }
+        ⌜ Written 0 (chosenBytes (now (memory .entry)) o) (now (out .entry)) r (now (out .exit)) × (now (memory .exit) ≡ now (memory .entry))
+        × (now (buf .exit) ≡ laid (room limit) (now (buf .entry)) (lastOf (now (memory .entry)) limit o)) ⌝ }
 {
     let mut got = 0;
     loop {

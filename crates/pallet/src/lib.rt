@@ -50,11 +50,13 @@ fn read_sendable(
     buf: &mut [u8],
     out: &mut [u8],
 ) -> Whole
-    requires { ⌜ Sendable (tablesOf (now structures) (now members) (now programs) (now tags) (now others) (now names) (now «tag_names») (now templates)) (now memory) (now path) limit (length (now buf)) ⌝ }
+    requires { let t = tablesOf (now structures) (now members) (now programs) (now tags) (now others) (now names) (now «tag_names») (now templates) in
+        ⌜ Sendable t (now memory) (now path) limit (length (now buf)) ⌝ }
     ensures { λ r. let t = tablesOf (now (structures .entry)) (now (members .entry)) (now (programs .entry)) (now (tags .entry))
         (now (others .entry)) (now (names .entry)) (now («tag_names» .entry)) (now (templates .entry)) in
         let first = firstReply t (flagsOf flags) (now (memory .entry)) (now (path .entry)) elements limit in
-        ⌜ (received r (now (out .exit)) (now (buf .exit)) ≡ wholeOf (chosen t (flagsOf flags) (now (path .entry)) elements) first (now (memory .entry)) limit (now (buf .entry)) (now (out .entry))) × (now (memory .exit) ≡ now (memory .entry)) ⌝ }
+        ⌜ (received r (now (out .exit)) (now (buf .exit)) ≡ wholeOf (chosen t (flagsOf flags) (now (path .entry)) elements) first
+        (now (memory .entry)) limit (now (buf .entry)) (now (out .entry))) × (now (memory .exit) ≡ now (memory .entry)) ⌝ }
 {
     match sizes::selected_size(
         structures,
@@ -138,7 +140,8 @@ pub fn read_whole(
 ) -> Whole
     ensures { λ r. let t = tablesOf (now (structures .entry)) (now (members .entry)) (now (programs .entry)) (now (tags .entry))
         (now (others .entry)) (now (names .entry)) (now («tag_names» .entry)) (now (templates .entry)) in
-        ⌜ (received r (now (out .exit)) (now (buf .exit)) ≡ wholeRead t (flagsOf flags) (now (memory .entry)) (now (path .entry)) elements limit (now (buf .entry)) (now (out .entry))) × (now (memory .exit) ≡ now (memory .entry)) ⌝ }
+        ⌜ (received r (now (out .exit)) (now (buf .exit)) ≡ wholeRead t (flagsOf flags) (now (memory .entry)) (now (path .entry)) elements limit
+        (now (buf .entry)) (now (out .entry))) × (now (memory .exit) ≡ now (memory .entry)) ⌝ }
 {
     if !requests::is_sendable(path) {
         return Whole::Unsendable;

@@ -61,7 +61,8 @@ fn accepted(attributes: &[u8]) -> Count
 /// What a page accepts of a program's name and a list of attributes.
 fn asked_of(programs: &[[u32; 2]], names: &[u8], program: &[u8], attributes: &[u8]) -> Asked
     requires { ⌜ length (now programs) ≤ 65535 ⌝ }
-    ensures { λ r. ⌜ r ≡ askedBy (scopeBy (now (programs .entry)) (now (names .entry)) (now (program .entry))) (acceptedIn (now (attributes .entry))) ⌝ }
+    ensures { λ r. ⌜ r ≡ askedBy (scopeBy (now (programs .entry)) (now (names .entry)) (now (program .entry))) (acceptedIn (now (attributes .entry)))
+        ⌝ }
 {
     let Scope::In(scope) = scope_of(programs, names, program) else {
         return Asked::Nothing;
@@ -92,7 +93,8 @@ fn list_granted(
     scope: u32,
     n: usize,
 ) -> Whole
-    requires { ⌜ Askable (tablesOf (now structures) (now members) (now programs) (now tags) (now others) (now names) (now «tag_names») (now templates)) (now memory) (now program) (now attributes) limit (length (now buf)) × Granted (tablesOf (now structures) (now members) (now programs) (now tags) (now others) (now names) (now «tag_names») (now templates)) (now program) (now attributes) scope n ⌝ }
+    requires { let t = tablesOf (now structures) (now members) (now programs) (now tags) (now others) (now names) (now «tag_names») (now templates) in
+        ⌜ Askable t (now memory) (now program) (now attributes) limit (length (now buf)) × Granted t (now program) (now attributes) scope n ⌝ }
     ensures { λ r. let t = tablesOf (now (structures .entry)) (now (members .entry)) (now (programs .entry)) (now (tags .entry))
         (now (others .entry)) (now (names .entry)) (now («tag_names» .entry)) (now (templates .entry)) in
         let first = firstPage t (flagsOf flags) (now (memory .entry)) (now (program .entry)) (now (attributes .entry)) limit in
@@ -157,7 +159,8 @@ fn list_askable(
     buf: &mut [u8],
     out: &mut [u8],
 ) -> Whole
-    requires { ⌜ Askable (tablesOf (now structures) (now members) (now programs) (now tags) (now others) (now names) (now «tag_names») (now templates)) (now memory) (now program) (now attributes) limit (length (now buf)) ⌝ }
+    requires { let t = tablesOf (now structures) (now members) (now programs) (now tags) (now others) (now names) (now «tag_names») (now templates) in
+        ⌜ Askable t (now memory) (now program) (now attributes) limit (length (now buf)) ⌝ }
     ensures { λ r. let t = tablesOf (now (structures .entry)) (now (members .entry)) (now (programs .entry)) (now (tags .entry))
         (now (others .entry)) (now (names .entry)) (now («tag_names» .entry)) (now (templates .entry)) in
         let first = firstPage t (flagsOf flags) (now (memory .entry)) (now (program .entry)) (now (attributes .entry)) limit in
@@ -225,7 +228,8 @@ pub fn list_whole(
 ) -> Whole
     ensures { λ r. let t = tablesOf (now (structures .entry)) (now (members .entry)) (now (programs .entry)) (now (tags .entry))
         (now (others .entry)) (now (names .entry)) (now («tag_names» .entry)) (now (templates .entry)) in
-        let whole = wholeList t (flagsOf flags) (now (memory .entry)) (now (program .entry)) (now (attributes .entry)) limit (now (buf .entry)) (now (out .entry)) in
+        let whole = wholeList t (flagsOf flags) (now (memory .entry)) (now (program .entry)) (now (attributes .entry)) limit (now (buf .entry))
+        (now (out .entry)) in
         ⌜ (received r (now (out .exit)) (now (buf .exit)) ≡ whole) × (now (memory .exit) ≡ now (memory .entry)) ⌝ }
 {
     if !pages::is_askable(program, attributes) {

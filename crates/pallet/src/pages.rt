@@ -99,8 +99,12 @@ fn send_list(
     limit: usize,
     buf: &mut [u8],
 ) -> usize
-    requires { ⌜ Askable (tablesOf (now structures) (now members) (now programs) (now tags) (now others) (now names) (now «tag_names») (now templates)) (now memory) (now program) (now attributes) limit (length (now buf)) ⌝ }
-    ensures { λ r. ⌜ Answers limit (answer (tablesOf (now (structures .entry)) (now (members .entry)) (now (programs .entry)) (now (tags .entry)) (now (others .entry)) (now (names .entry)) (now («tag_names» .entry)) (now (templates .entry))) (flagsOf flags) (now (memory .entry)) (listRequest (now (program .entry)) (now (attributes .entry)) id) limit) (now (buf .entry)) r (now (buf .exit)) (now (memory .exit)) ⌝ }
+    requires { let t = tablesOf (now structures) (now members) (now programs) (now tags) (now others) (now names) (now «tag_names») (now templates) in
+        ⌜ Askable t (now memory) (now program) (now attributes) limit (length (now buf)) ⌝ }
+    ensures { λ r. let t = tablesOf (now (structures .entry)) (now (members .entry)) (now (programs .entry)) (now (tags .entry))
+        (now (others .entry)) (now (names .entry)) (now («tag_names» .entry)) (now (templates .entry)) in
+        ⌜ Answers limit (answer t (flagsOf flags) (now (memory .entry)) (listRequest (now (program .entry)) (now (attributes .entry)) id) limit)
+        (now (buf .entry)) r (now (buf .exit)) (now (memory .exit)) ⌝ }
 {
     let mut message = [0u8; 1292];
     let n = put_list(&mut message, program, attributes, id);
@@ -138,7 +142,8 @@ pub fn first_page(
     limit: usize,
     buf: &mut [u8],
 ) -> u8
-    requires { ⌜ Askable (tablesOf (now structures) (now members) (now programs) (now tags) (now others) (now names) (now «tag_names») (now templates)) (now memory) (now program) (now attributes) limit (length (now buf)) ⌝ }
+    requires { let t = tablesOf (now structures) (now members) (now programs) (now tags) (now others) (now names) (now «tag_names») (now templates) in
+        ⌜ Askable t (now memory) (now program) (now attributes) limit (length (now buf)) ⌝ }
     ensures { λ r. let t = tablesOf (now (structures .entry)) (now (members .entry)) (now (programs .entry)) (now (tags .entry))
         (now (others .entry)) (now (names .entry)) (now («tag_names» .entry)) (now (templates .entry)) in
         let first = firstPage t (flagsOf flags) (now (memory .entry)) (now (program .entry)) (now (attributes .entry)) limit in
@@ -186,11 +191,15 @@ fn join_page(
     start: u32,
     got: usize,
 ) -> Turn
-    requires { ⌜ Askable (tablesOf (now structures) (now members) (now programs) (now tags) (now others) (now names) (now «tag_names») (now templates)) (now memory) (now program) (now attributes) limit (length (now buf)) × Granted (tablesOf (now structures) (now members) (now programs) (now tags) (now others) (now names) (now «tag_names») (now templates)) (now program) (now attributes) scope n × (4 + longest (due (tablesOf (now structures) (now members) (now programs) (now tags) (now others) (now names) (now «tag_names») (now templates)) scope (numbers n (drop 2 (now attributes))) start) ≤ limit) × (got + length (bytesOf (due (tablesOf (now structures) (now members) (now programs) (now tags) (now others) (now names) (now «tag_names») (now templates)) scope (numbers n (drop 2 (now attributes))) start)) ≤ length (now out)) × (got ≤ 71302080) ⌝ }
+    requires { let t = tablesOf (now structures) (now members) (now programs) (now tags) (now others) (now names) (now «tag_names») (now templates) in
+        ⌜ Askable t (now memory) (now program) (now attributes) limit (length (now buf)) × Granted t (now program) (now attributes) scope n
+        × (4 + longest (due t scope (numbers n (drop 2 (now attributes))) start) ≤ limit)
+        × (got + length (bytesOf (due t scope (numbers n (drop 2 (now attributes))) start)) ≤ length (now out)) × (got ≤ 71302080) ⌝ }
     ensures { λ r. let t = tablesOf (now (structures .entry)) (now (members .entry)) (now (programs .entry)) (now (tags .entry))
         (now (others .entry)) (now (names .entry)) (now («tag_names» .entry)) (now (templates .entry)) in
         let entries = due t scope (numbers n (drop 2 (now (attributes .entry)))) start in
-        ⌜ Page entries limit got (now (out .entry)) r (now (out .exit)) × (now (memory .exit) ≡ now (memory .entry)) × (now (buf .exit) ≡ laid (room limit) (now (buf .entry)) (pageReply 0x55 entries limit)) ⌝ }
+        ⌜ Page entries limit got (now (out .entry)) r (now (out .exit)) × (now (memory .exit) ≡ now (memory .entry))
+        × (now (buf .exit) ≡ laid (room limit) (now (buf .entry)) (pageReply 0x55 entries limit)) ⌝ }
 {
     let size = send_list(
         structures,
@@ -237,11 +246,15 @@ pub fn join_pages(
     scope: u32,
     n: usize,
 ) -> usize
-    requires { ⌜ Askable (tablesOf (now structures) (now members) (now programs) (now tags) (now others) (now names) (now «tag_names») (now templates)) (now memory) (now program) (now attributes) limit (length (now buf)) × Granted (tablesOf (now structures) (now members) (now programs) (now tags) (now others) (now names) (now «tag_names») (now templates)) (now program) (now attributes) scope n × (4 + longest (due (tablesOf (now structures) (now members) (now programs) (now tags) (now others) (now names) (now «tag_names») (now templates)) scope (numbers n (drop 2 (now attributes))) 0) ≤ limit) × (length (bytesOf (due (tablesOf (now structures) (now members) (now programs) (now tags) (now others) (now names) (now «tag_names») (now templates)) scope (numbers n (drop 2 (now attributes))) 0)) ≤ length (now out)) ⌝ }
+    requires { let t = tablesOf (now structures) (now members) (now programs) (now tags) (now others) (now names) (now «tag_names») (now templates) in
+        ⌜ Askable t (now memory) (now program) (now attributes) limit (length (now buf)) × Granted t (now program) (now attributes) scope n
+        × (4 + longest (due t scope (numbers n (drop 2 (now attributes))) 0) ≤ limit)
+        × (length (bytesOf (due t scope (numbers n (drop 2 (now attributes))) 0)) ≤ length (now out)) ⌝ }
     ensures { λ r. let t = tablesOf (now (structures .entry)) (now (members .entry)) (now (programs .entry)) (now (tags .entry))
         (now (others .entry)) (now (names .entry)) (now («tag_names» .entry)) (now (templates .entry)) in
         let entries = due t scope (numbers n (drop 2 (now (attributes .entry)))) 0 in
-        ⌜ Written 0 (bytesOf entries) (now (out .entry)) r (now (out .exit)) × (now (memory .exit) ≡ now (memory .entry)) × (now (buf .exit) ≡ laid (room limit) (now (buf .entry)) (pageReply 0x55 (lastPage limit entries) limit)) ⌝ }
+        ⌜ Written 0 (bytesOf entries) (now (out .entry)) r (now (out .exit)) × (now (memory .exit) ≡ now (memory .entry))
+        × (now (buf .exit) ≡ laid (room limit) (now (buf .entry)) (pageReply 0x55 (lastPage limit entries) limit)) ⌝ }
 {
     let mut start = 0u32;
     let mut got = 0;

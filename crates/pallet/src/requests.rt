@@ -56,8 +56,12 @@ pub fn send_read(
     limit: usize,
     buf: &mut [u8],
 ) -> usize
-    requires { ⌜ Sendable (tablesOf (now structures) (now members) (now programs) (now tags) (now others) (now names) (now «tag_names») (now templates)) (now memory) (now path) limit (length (now buf)) × (offset ≤ 65536) ⌝ }
-    ensures { λ r. ⌜ Answers limit (answer (tablesOf (now (structures .entry)) (now (members .entry)) (now (programs .entry)) (now (tags .entry)) (now (others .entry)) (now (names .entry)) (now («tag_names» .entry)) (now (templates .entry))) (flagsOf flags) (now (memory .entry)) (readRequest (now (path .entry)) elements offset) limit) (now (buf .entry)) r (now (buf .exit)) (now (memory .exit)) ⌝ }
+    requires { let t = tablesOf (now structures) (now members) (now programs) (now tags) (now others) (now names) (now «tag_names») (now templates) in
+        ⌜ Sendable t (now memory) (now path) limit (length (now buf)) × (offset ≤ 65536) ⌝ }
+    ensures { λ r. let t = tablesOf (now (structures .entry)) (now (members .entry)) (now (programs .entry)) (now (tags .entry))
+        (now (others .entry)) (now (names .entry)) (now («tag_names» .entry)) (now (templates .entry)) in
+        ⌜ Answers limit (answer t (flagsOf flags) (now (memory .entry)) (readRequest (now (path .entry)) elements offset) limit) (now (buf .entry)) r
+        (now (buf .exit)) (now (memory .exit)) ⌝ }
 {
     let mut message = [0u8; 520];
     let n = put_request(&mut message, path, elements, offset);

@@ -53,8 +53,11 @@ pub fn selected_size(
     path: &[u8],
     elements: u16,
 ) -> Size
-    requires { ⌜ valid (tablesOf (now structures) (now members) (now programs) (now tags) (now others) (now names) (now «tag_names») (now templates)) (length (now memory)) ≡ true ⌝ }
-    ensures { λ r. ⌜ r ≡ sizedOf (now (memory .entry)) (chosen (tablesOf (now (structures .entry)) (now (members .entry)) (now (programs .entry)) (now (tags .entry)) (now (others .entry)) (now (names .entry)) (now («tag_names» .entry)) (now (templates .entry))) (flagsOf flags) (now (path .entry)) elements) ⌝ }
+    requires { let t = tablesOf (now structures) (now members) (now programs) (now tags) (now others) (now names) (now «tag_names») (now templates) in
+        ⌜ valid t (length (now memory)) ≡ true ⌝ }
+    ensures { λ r. let t = tablesOf (now (structures .entry)) (now (members .entry)) (now (programs .entry)) (now (tags .entry))
+        (now (others .entry)) (now (names .entry)) (now («tag_names» .entry)) (now (templates .entry)) in
+        ⌜ r ≡ sizedOf (now (memory .entry)) (chosen t (flagsOf flags) (now (path .entry)) elements) ⌝ }
 {
     let path::Check::Segments(_) = path::check_path(path) else {
         return Size::Nothing;

@@ -38,8 +38,10 @@ pub fn measure_all(
     limit: usize,
     buf: &mut [u8],
 ) -> Measure
-    requires { ⌜ SomeValid (now structures) (now tags) (now others) (now names) (now «tag_names») × (2 + 2 * n ≤ length (now body)) × (n ≤ 65535) × (4 ≤ limit) × (limit ≤ 65535) × (limit ≤ length (now buf)) ⌝ }
-    ensures { λ r. ⌜ EachValid (now (structures .entry)) (now (tags .entry)) (now (others .entry)) (now (names .entry)) (now («tag_names» .entry)) (λ t. Measured (due t scope (numbers n (drop 2 (now (body .entry)))) 0) limit r) × KeptFrom limit (now (buf .entry)) (now (buf .exit)) ⌝ }
+    requires { ⌜ SomeValid (now structures) (now tags) (now others) (now names) (now «tag_names») × (2 + 2 * n ≤ length (now body)) × (n ≤ 65535)
+        × (4 ≤ limit) × (limit ≤ 65535) × (limit ≤ length (now buf)) ⌝ }
+    ensures { λ r. ⌜ EachValid (now (structures .entry)) (now (tags .entry)) (now (others .entry)) (now (names .entry)) (now («tag_names» .entry))
+        (λ t. Measured (due t scope (numbers n (drop 2 (now (body .entry)))) 0) limit r) × KeptFrom limit (now (buf .entry)) (now (buf .exit)) ⌝ }
 {
     let mut total = 0;
     let mut bound = 0u64;
@@ -87,8 +89,10 @@ pub fn measured(
     n: usize,
     limit: usize,
 ) -> Measure
-    requires { ⌜ SomeValid (now structures) (now tags) (now others) (now names) (now «tag_names») × (2 + 2 * n ≤ length (now body)) × (n ≤ 65535) × (4 ≤ limit) × (limit ≤ 65535) ⌝ }
-    ensures { λ r. ⌜ EachValid (now (structures .entry)) (now (tags .entry)) (now (others .entry)) (now (names .entry)) (now («tag_names» .entry)) (λ t. Measured (due t scope (numbers n (drop 2 (now (body .entry)))) 0) limit r) ⌝ }
+    requires { ⌜ SomeValid (now structures) (now tags) (now others) (now names) (now «tag_names») × (2 + 2 * n ≤ length (now body)) × (n ≤ 65535)
+        × (4 ≤ limit) × (limit ≤ 65535) ⌝ }
+    ensures { λ r. ⌜ EachValid (now (structures .entry)) (now (tags .entry)) (now (others .entry)) (now (names .entry)) (now («tag_names» .entry))
+        (λ t. Measured (due t scope (numbers n (drop 2 (now (body .entry)))) 0) limit r) ⌝ }
 {
     let mut scratch = [0u8; 65535];
     measure_all(
@@ -119,9 +123,12 @@ fn next_bound(
     size: usize,
     buf: &mut [u8],
 ) -> u64
-    requires { ⌜ SomeValid (now structures) (now tags) (now others) (now names) (now «tag_names») × (2 + 2 * n ≤ length (now body)) × (n ≤ 65535) × (4 ≤ size) × (size ≤ length (now buf)) ⌝ }
+    requires { ⌜ SomeValid (now structures) (now tags) (now others) (now names) (now «tag_names») × (2 + 2 * n ≤ length (now body)) × (n ≤ 65535)
+        × (4 ≤ size) × (size ≤ length (now buf)) ⌝ }
     ensures { λ r. let list = numbers n (drop 2 (now (body .entry))) in
-        ⌜ EachValid (now (structures .entry)) (now (tags .entry)) (now (others .entry)) (now (names .entry)) (now («tag_names» .entry)) (λ t. (r ≡ nextId start (front size (due t scope list start))) × (due t scope list r ≡ behind size (due t scope list start))) × KeptFrom size (now (buf .entry)) (now (buf .exit)) ⌝ }
+        ⌜ EachValid (now (structures .entry)) (now (tags .entry)) (now (others .entry)) (now (names .entry)) (now («tag_names» .entry))
+        (λ t. (r ≡ nextId start (front size (due t scope list start))) × (due t scope list r ≡ behind size (due t scope list start)))
+        × KeptFrom size (now (buf .entry)) (now (buf .exit)) ⌝ }
 {
     let mut used = HEADER;
     let mut bound = start as u64;
@@ -196,9 +203,12 @@ pub fn next_start(
     size: usize,
     buf: &mut [u8],
 ) -> Start
-    requires { ⌜ SomeValid (now structures) (now tags) (now others) (now names) (now «tag_names») × (2 + 2 * n ≤ length (now body)) × (n ≤ 65535) × (4 ≤ size) × (size ≤ length (now buf)) ⌝ }
+    requires { ⌜ SomeValid (now structures) (now tags) (now others) (now names) (now «tag_names») × (2 + 2 * n ≤ length (now body)) × (n ≤ 65535)
+        × (4 ≤ size) × (size ≤ length (now buf)) ⌝ }
     ensures { λ r. let list = numbers n (drop 2 (now (body .entry))) in
-        ⌜ EachValid (now (structures .entry)) (now (tags .entry)) (now (others .entry)) (now (names .entry)) (now («tag_names» .entry)) (λ t. StartsAt t scope list start (front size (due t scope list start)) (behind size (due t scope list start)) r) × KeptFrom size (now (buf .entry)) (now (buf .exit)) ⌝ }
+        ⌜ EachValid (now (structures .entry)) (now (tags .entry)) (now (others .entry)) (now (names .entry)) (now («tag_names» .entry))
+        (λ t. StartsAt t scope list start (front size (due t scope list start)) (behind size (due t scope list start)) r)
+        × KeptFrom size (now (buf .entry)) (now (buf .exit)) ⌝ }
 {
     let bound = next_bound(
         structures,

@@ -91,7 +91,8 @@ pub fn tag_at(tags: &[Tag], i: usize) -> Tag
 /// One record is stored.
 pub fn set_tag(tags: &mut [Tag], i: usize, tag: Tag)
     requires { ⌜ i < length (now tags) ⌝ }
-    ensures { λ _. ⌜ (now (tags .exit) ≡ set (now (tags .entry)) i tag) × (rowsOf (now (tags .exit)) ≡ set (rowsOf (now (tags .entry))) i (rowOf tag)) ⌝ }
+    ensures { λ _. ⌜ (now (tags .exit) ≡ set (now (tags .entry)) i tag) × (rowsOf (now (tags .exit)) ≡ set (rowsOf (now (tags .entry))) i
+        (rowOf tag)) ⌝ }
 {
     tags[i] = tag;
 }

@@ -72,8 +72,10 @@ pub fn resolve(
     flags: Flags,
     path: &[u8],
 ) -> Resolved
-    requires { ⌜ (isSome (segments (now path)) ≡ true) × Tabled (now structures) (now members) (now programs) (now tags) (now names) (now «tag_names») ⌝ }
-    ensures { λ r. ⌜ Resolves (now (structures .entry)) (now (members .entry)) (now (programs .entry)) (now (tags .entry)) (now (names .entry)) (now («tag_names» .entry)) (flagsOf flags) (now (path .entry)) r ⌝ }
+    requires { ⌜ (isSome (segments (now path)) ≡ true) × Tabled (now structures) (now members) (now programs) (now tags) (now names)
+        (now «tag_names») ⌝ }
+    ensures { λ r. ⌜ Resolves (now (structures .entry)) (now (members .entry)) (now (programs .entry)) (now (tags .entry)) (now (names .entry))
+        (now («tag_names» .entry)) (flagsOf flags) (now (path .entry)) r ⌝ }
 {
     match start::tag_of(programs, tags, names, tag_names, flags, path) {
         start::Start::At(i, next) => {
@@ -156,8 +158,10 @@ pub fn tag_target(
     writes: bool,
     path: &[u8],
 ) -> Resolved
-    requires { ⌜ (isSome (segments (now path)) ≡ true) × Tabled (now structures) (now members) (now programs) (now tags) (now names) (now «tag_names») ⌝ }
-    ensures { λ r. ⌜ Targets (now (structures .entry)) (now (members .entry)) (now (programs .entry)) (now (tags .entry)) (now (names .entry)) (now («tag_names» .entry)) (flagsOf flags) writes (now (path .entry)) r ⌝ }
+    requires { ⌜ (isSome (segments (now path)) ≡ true) × Tabled (now structures) (now members) (now programs) (now tags) (now names)
+        (now «tag_names») ⌝ }
+    ensures { λ r. ⌜ Targets (now (structures .entry)) (now (members .entry)) (now (programs .entry)) (now (tags .entry)) (now (names .entry))
+        (now («tag_names» .entry)) (flagsOf flags) writes (now (path .entry)) r ⌝ }
 {
     match resolve(
         structures,

@@ -131,7 +131,8 @@ pub fn member_of(
     g: Place,
 ) -> Moved
     requires { ⌜ g .start ≤ 65536 ⌝ }
-    ensures { λ r. ⌜ movedOf r ≡ memberMove (now (structures .entry)) (now (members .entry)) (now (names .entry)) (flagsOf flags) (now (name .entry)) (placeOf g) ⌝ }
+    ensures { λ r. ⌜ movedOf r ≡ memberMove (now (structures .entry)) (now (members .entry)) (now (names .entry)) (flagsOf flags) (now (name .entry))
+        (placeOf g) ⌝ }
 {
     if g.ty < model::types::FIRST_STRUCTURE {
         return Moved::Turned(Status::PathError);

@@ -39,8 +39,10 @@ fn step(
     at: usize,
     g: Place,
 ) -> Stepped
-    requires { ⌜ (isSome (segmentsFrom (now path) at) ≡ true) × (at < length (now path)) × Standing (now structures) (now members) (now names) (placeOf g) ⌝ }
-    ensures { λ r. ⌜ Steps (now (structures .entry)) (now (members .entry)) (now (names .entry)) (flagsOf flags) (now (path .entry)) at (placeOf g) r ⌝ }
+    requires { ⌜ (isSome (segmentsFrom (now path) at) ≡ true) × (at < length (now path))
+        × Standing (now structures) (now members) (now names) (placeOf g) ⌝ }
+    ensures { λ r. ⌜ Steps (now (structures .entry)) (now (members .entry)) (now (names .entry)) (flagsOf flags) (now (path .entry)) at (placeOf g) r
+        ⌝ }
 {
     match path::segment_at(path, at) {
         Segment::Element(_, _) => {
@@ -78,7 +80,8 @@ pub fn follow(
     first: Place,
 ) -> Moved
     requires { ⌜ (isSome (segmentsFrom (now path) from) ≡ true) × Standing (now structures) (now members) (now names) (placeOf first) ⌝ }
-    ensures { λ r. ⌜ movedOf r ≡ walked (now (structures .entry)) (now (members .entry)) (now (names .entry)) (flagsOf flags) (now (path .entry)) from (placeOf first) ⌝ }
+    ensures { λ r. ⌜ movedOf r ≡ walked (now (structures .entry)) (now (members .entry)) (now (names .entry)) (flagsOf flags) (now (path .entry))
+        from (placeOf first) ⌝ }
 {
     let mut at = from;
     let mut g = first;

@@ -122,7 +122,8 @@ fn in_program(
     name: &[u8],
 ) -> Start
     requires { ⌜ (isSome (segmentsFrom (now path) at) ≡ true) × (length (now programs) ≤ 16) ⌝ }
-    ensures { λ r. ⌜ Begins (now (tags .entry)) (now («tag_names» .entry)) (flagsOf flags) (now (path .entry)) (inProgramOf (programIn (now (programs .entry)) (now (names .entry)) (now (name .entry)))) at r ⌝ }
+    ensures { λ r. ⌜ Begins (now (tags .entry)) (now («tag_names» .entry)) (flagsOf flags) (now (path .entry))
+        (inProgramOf (programIn (now (programs .entry)) (now (names .entry)) (now (name .entry)))) at r ⌝ }
 {
     match model::lookup::find_program(programs, names, name) {
         Found::At(k) => in_scope(tags, tag_names, flags, path, at, (k + 1) as u32),
@@ -164,7 +165,8 @@ pub fn tag_of(
     path: &[u8],
 ) -> Start
     requires { ⌜ (isSome (segmentsFrom (now path) 0) ≡ true) × (length (now programs) ≤ 16) ⌝ }
-    ensures { λ r. ⌜ BeginsPath (now (programs .entry)) (now (names .entry)) (now (tags .entry)) (now («tag_names» .entry)) (flagsOf flags) (now (path .entry)) r ⌝ }
+    ensures { λ r. ⌜ BeginsPath (now (programs .entry)) (now (names .entry)) (now (tags .entry)) (now («tag_names» .entry)) (flagsOf flags)
+        (now (path .entry)) r ⌝ }
 {
     match prefix_of(path) {
         Prefix::Program(start, n, next) => in_program(

@@ -115,8 +115,13 @@ fn by_service(
     limit: usize,
     buf: &mut [u8],
 ) -> usize
-    requires { ⌜ (isSome (segments (now path)) ≡ true) × ObjectAt (now path) 0 o × (valid (tablesOf (now structures) (now members) (now programs) (now tags) (now others) (now names) (now «tag_names») (now templates)) (length (now memory)) ≡ true) × (room limit ≤ length (now buf)) ⌝ }
-    ensures { λ r. ⌜ OnPath (now (path .entry)) limit (λ l. byService (tablesOf (now (structures .entry)) (now (members .entry)) (now (programs .entry)) (now (tags .entry)) (now (others .entry)) (now (names .entry)) (now («tag_names» .entry)) (now (templates .entry))) (flagsOf flags) (now (memory .entry)) service l (now (body .entry)) limit) (now (buf .entry)) r (now (buf .exit)) (now (memory .exit)) ⌝ }
+    requires { let t = tablesOf (now structures) (now members) (now programs) (now tags) (now others) (now names) (now «tag_names») (now templates) in
+        ⌜ (isSome (segments (now path)) ≡ true) × ObjectAt (now path) 0 o × (valid t (length (now memory)) ≡ true)
+        × (room limit ≤ length (now buf)) ⌝ }
+    ensures { λ r. let t = tablesOf (now (structures .entry)) (now (members .entry)) (now (programs .entry)) (now (tags .entry))
+        (now (others .entry)) (now (names .entry)) (now («tag_names» .entry)) (now (templates .entry)) in
+        ⌜ OnPath (now (path .entry)) limit (λ l. byService t (flagsOf flags) (now (memory .entry)) service l (now (body .entry)) limit)
+        (now (buf .entry)) r (now (buf .exit)) (now (memory .exit)) ⌝ }
 {
     if service == SYMBOL_PAGE {
         return listing::requests::list_symbols(
@@ -173,8 +178,12 @@ pub fn plain(
     limit: usize,
     buf: &mut [u8],
 ) -> usize
-    requires { ⌜ (isSome (segments (now path)) ≡ true) × (valid (tablesOf (now structures) (now members) (now programs) (now tags) (now others) (now names) (now «tag_names») (now templates)) (length (now memory)) ≡ true) × (room limit ≤ length (now buf)) ⌝ }
-    ensures { λ r. ⌜ OnPath (now (path .entry)) limit (λ l. plainly (tablesOf (now (structures .entry)) (now (members .entry)) (now (programs .entry)) (now (tags .entry)) (now (others .entry)) (now (names .entry)) (now («tag_names» .entry)) (now (templates .entry))) (flagsOf flags) (now (memory .entry)) service l (now (body .entry)) limit) (now (buf .entry)) r (now (buf .exit)) (now (memory .exit)) ⌝ }
+    requires { let t = tablesOf (now structures) (now members) (now programs) (now tags) (now others) (now names) (now «tag_names») (now templates) in
+        ⌜ (isSome (segments (now path)) ≡ true) × (valid t (length (now memory)) ≡ true) × (room limit ≤ length (now buf)) ⌝ }
+    ensures { λ r. let t = tablesOf (now (structures .entry)) (now (members .entry)) (now (programs .entry)) (now (tags .entry))
+        (now (others .entry)) (now (names .entry)) (now («tag_names» .entry)) (now (templates .entry)) in
+        ⌜ OnPath (now (path .entry)) limit (λ l. plainly t (flagsOf flags) (now (memory .entry)) service l (now (body .entry)) limit)
+        (now (buf .entry)) r (now (buf .exit)) (now (memory .exit)) ⌝ }
 {
     let o = path::object_at(path, 0);
     match own_service(o, service, flags.micro800) {

@@ -68,7 +68,8 @@ fn serve(
     buf: &mut [u8],
 ) -> usize
     requires { ⌜ Aimed (now structures) (length (now memory)) g × (room limit ≤ length (now buf)) ⌝ }
-    ensures { λ r. ⌜ Answers limit (onFound (now (structures .entry)) (now (memory .entry)) service (targetOf g []) (now (body .entry)) limit) (now (buf .entry)) r (now (buf .exit)) (now (memory .exit)) ⌝ }
+    ensures { λ r. ⌜ Answers limit (onFound (now (structures .entry)) (now (memory .entry)) service (targetOf g []) (now (body .entry)) limit)
+        (now (buf .entry)) r (now (buf .exit)) (now (memory .exit)) ⌝ }
 {
     if is_read(service) {
         return tags::reads::read(structures, templates, memory, service, g, body, limit, buf);
@@ -99,8 +100,12 @@ pub fn tag_service(
     limit: usize,
     buf: &mut [u8],
 ) -> usize
-    requires { ⌜ (isSome (segments (now path)) ≡ true) × (valid (tablesOf (now structures) (now members) (now programs) (now tags) (now others) (now names) (now «tag_names») (now templates)) (length (now memory)) ≡ true) × (room limit ≤ length (now buf)) ⌝ }
-    ensures { λ r. ⌜ OnPath (now (path .entry)) limit (λ l. tagService (tablesOf (now (structures .entry)) (now (members .entry)) (now (programs .entry)) (now (tags .entry)) (now (others .entry)) (now (names .entry)) (now («tag_names» .entry)) (now (templates .entry))) (flagsOf flags) (now (memory .entry)) service l (now (body .entry)) limit) (now (buf .entry)) r (now (buf .exit)) (now (memory .exit)) ⌝ }
+    requires { let t = tablesOf (now structures) (now members) (now programs) (now tags) (now others) (now names) (now «tag_names») (now templates) in
+        ⌜ (isSome (segments (now path)) ≡ true) × (valid t (length (now memory)) ≡ true) × (room limit ≤ length (now buf)) ⌝ }
+    ensures { λ r. let t = tablesOf (now (structures .entry)) (now (members .entry)) (now (programs .entry)) (now (tags .entry))
+        (now (others .entry)) (now (names .entry)) (now («tag_names» .entry)) (now (templates .entry)) in
+        ⌜ OnPath (now (path .entry)) limit (λ l. tagService t (flagsOf flags) (now (memory .entry)) service l (now (body .entry)) limit)
+        (now (buf .entry)) r (now (buf .exit)) (now (memory .exit)) ⌝ }
 {
     match resolve::tag_target(
         structures,

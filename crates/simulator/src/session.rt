@@ -31,7 +31,8 @@ fn respond(
     limit: usize,
     buf: &mut [u8],
 )
-    requires { ⌜ (length (now request) ≤ 65535) × (limit ≤ 65535) × (65535 ≤ length (now buf)) × (valid (tablesOf (now structures) (now members) (now programs) (now tags) (now others) (now names) (now «tag_names») (now templates)) (length (now memory)) ≡ true) ⌝ }
+    requires { let t = tablesOf (now structures) (now members) (now programs) (now tags) (now others) (now names) (now «tag_names») (now templates) in
+        ⌜ (length (now request) ≤ 65535) × (limit ≤ 65535) × (65535 ≤ length (now buf)) × (valid t (length (now memory)) ≡ true) ⌝ }
 {
     let n = logix::entry::answer(
         structures,
@@ -80,7 +81,8 @@ fn serve_line(
     request: &mut [u8],
     buf: &mut [u8],
 )
-    requires { ⌜ (length (now request) ≤ 65535) × (65535 ≤ length (now buf)) × (valid (tablesOf (now structures) (now members) (now programs) (now tags) (now others) (now names) (now «tag_names») (now templates)) (length (now memory)) ≡ true) ⌝ }
+    requires { let t = tablesOf (now structures) (now members) (now programs) (now tags) (now others) (now names) (now «tag_names») (now templates) in
+        ⌜ (length (now request) ≤ 65535) × (65535 ≤ length (now buf)) × (valid t (length (now memory)) ≡ true) ⌝ }
 {
     if skipping {
         return;
@@ -123,7 +125,8 @@ fn serve_lines(
     buf: &mut [u8],
     place: Place,
 ) -> Place
-    requires { ⌜ (length (now request) ≤ 65535) × (65535 ≤ length (now buf)) × (length (now input) ≤ 262144) × (valid (tablesOf (now structures) (now members) (now programs) (now tags) (now others) (now names) (now «tag_names») (now templates)) (length (now memory)) ≡ true) ⌝ }
+    requires { let t = tablesOf (now structures) (now members) (now programs) (now tags) (now others) (now names) (now «tag_names») (now templates) in
+        ⌜ (length (now request) ≤ 65535) × (65535 ≤ length (now buf)) × (length (now input) ≤ 262144) × (valid t (length (now memory)) ≡ true) ⌝ }
     ensures { λ r. ⌜ r .at ≤ length (now (input .entry)) ⌝ }
 {
     let mut start = 0;
@@ -178,7 +181,9 @@ fn turn(
     buf: &mut [u8],
     place: Place,
 ) -> Place
-    requires { ⌜ (length (now request) ≤ 65535) × (65535 ≤ length (now buf)) × (length (now input) ≤ 262144) × (place .at ≤ length (now input)) × (valid (tablesOf (now structures) (now members) (now programs) (now tags) (now others) (now names) (now «tag_names») (now templates)) (length (now memory)) ≡ true) ⌝ }
+    requires { let t = tablesOf (now structures) (now members) (now programs) (now tags) (now others) (now names) (now «tag_names») (now templates) in
+        ⌜ (length (now request) ≤ 65535) × (65535 ≤ length (now buf)) × (length (now input) ≤ 262144) × (place .at ≤ length (now input))
+        × (valid t (length (now memory)) ≡ true) ⌝ }
     ensures { λ r. ⌜ r .at ≤ length (now (input .entry)) ⌝ }
 {
     let at = place.at;
@@ -221,7 +226,8 @@ fn serve(
     flags: Flags,
     memory: &mut [u8],
 )
-    requires { ⌜ (valid (tablesOf (now structures) (now members) (now programs) (now tags) (now others) (now names) (now «tag_names») (now templates)) (length (now memory)) ≡ true) ⌝ }
+    requires { let t = tablesOf (now structures) (now members) (now programs) (now tags) (now others) (now names) (now «tag_names») (now templates) in
+        ⌜ (valid t (length (now memory)) ≡ true) ⌝ }
 {
     let mut input = [0u8; 262144];
     let mut request = [0u8; 65535];

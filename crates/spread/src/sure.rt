@@ -81,7 +81,9 @@ fn name_span(
     k: usize,
 ) -> [usize; 2]
     requires { ⌜ k < length (now tags) + length (now others) ⌝ }
-    ensures { λ r. ⌜ (getD r 0 0 ≡ ofSymbol (tagFirst (now («tag_names» .entry))) (otherFirst (now (names .entry))) (now (tags .entry)) (now (others .entry)) k) × (getD r 1 0 ≡ ofSymbol (tagLast (now («tag_names» .entry))) (otherFirst (now (names .entry))) (now (tags .entry)) (now (others .entry)) k) ⌝ }
+    ensures { λ r. ⌜ (getD r 0 0 ≡ ofSymbol (tagFirst (now («tag_names» .entry))) (otherFirst (now (names .entry))) (now (tags .entry))
+        (now (others .entry)) k) × (getD r 1 0 ≡ ofSymbol (tagLast (now («tag_names» .entry))) (otherFirst (now (names .entry))) (now (tags .entry))
+        (now (others .entry)) k) ⌝ }
 {
     if k < tags.len() {
         let h = tag_key(&tags[k], tag_names);
@@ -102,7 +104,8 @@ fn id_places(scope: u32, id: u32) -> [usize; 2]
 
 fn id_span(tags: &[[u32; 12]], others: &[[u32; 5]], k: usize) -> [usize; 2]
     requires { ⌜ k < length (now tags) + length (now others) ⌝ }
-    ensures { λ r. ⌜ (getD r 0 0 ≡ ofSymbol idKey idKey (now (tags .entry)) (now (others .entry)) k) × (getD r 1 0 ≡ ofSymbol idLast idLast (now (tags .entry)) (now (others .entry)) k) ⌝ }
+    ensures { λ r. ⌜ (getD r 0 0 ≡ ofSymbol idKey idKey (now (tags .entry)) (now (others .entry)) k)
+        × (getD r 1 0 ≡ ofSymbol idLast idLast (now (tags .entry)) (now (others .entry)) k) ⌝ }
 {
     if k < tags.len() {
         return id_places(tags[k][0], tags[k][3]);
@@ -126,7 +129,10 @@ fn name_spans(
     hi: &mut [usize; 1088],
 )
     requires { ⌜ (length (now tags) + length (now others) ≤ 1088) × (length (now lo) ≡ 1088) × (length (now hi) ≡ 1088) ⌝ }
-    ensures { λ r. ⌜ Filled (now (lo .exit)) (ofSymbol (tagFirst (now («tag_names» .entry))) (otherFirst (now (names .entry))) (now (tags .entry)) (now (others .entry))) (length (now (tags .entry)) + length (now (others .entry))) × Filled (now (hi .exit)) (ofSymbol (tagLast (now («tag_names» .entry))) (otherFirst (now (names .entry))) (now (tags .entry)) (now (others .entry))) (length (now (tags .entry)) + length (now (others .entry))) ⌝ }
+    ensures { λ r. ⌜ Filled (now (lo .exit)) (ofSymbol (tagFirst (now («tag_names» .entry))) (otherFirst (now (names .entry))) (now (tags .entry))
+        (now (others .entry))) (length (now (tags .entry)) + length (now (others .entry)))
+        × Filled (now (hi .exit)) (ofSymbol (tagLast (now («tag_names» .entry))) (otherFirst (now (names .entry))) (now (tags .entry))
+        (now (others .entry))) (length (now (tags .entry)) + length (now (others .entry))) ⌝ }
 {
     let n = tags.len() + others.len();
     let mut i = 0;
@@ -140,7 +146,9 @@ fn name_spans(
 
 fn id_spans(tags: &[[u32; 12]], others: &[[u32; 5]], lo: &mut [usize; 1088], hi: &mut [usize; 1088])
     requires { ⌜ (length (now tags) + length (now others) ≤ 1088) × (length (now lo) ≡ 1088) × (length (now hi) ≡ 1088) ⌝ }
-    ensures { λ r. ⌜ Filled (now (lo .exit)) (ofSymbol idKey idKey (now (tags .entry)) (now (others .entry))) (length (now (tags .entry)) + length (now (others .entry))) × Filled (now (hi .exit)) (ofSymbol idLast idLast (now (tags .entry)) (now (others .entry))) (length (now (tags .entry)) + length (now (others .entry))) ⌝ }
+    ensures { λ r. ⌜ Filled (now (lo .exit)) (ofSymbol idKey idKey (now (tags .entry)) (now (others .entry)))
+        (length (now (tags .entry)) + length (now (others .entry))) × Filled (now (hi .exit))
+        (ofSymbol idLast idLast (now (tags .entry)) (now (others .entry))) (length (now (tags .entry)) + length (now (others .entry))) ⌝ }
 {
     let n = tags.len() + others.len();
     let mut i = 0;
@@ -159,7 +167,8 @@ fn byte_spans(
     hi: &mut [usize; 1088],
 )
     requires { ⌜ (length (now tags) ≤ 1088) × (length (now lo) ≡ 1088) × (length (now hi) ≡ 1088) ⌝ }
-    ensures { λ r. ⌜ Filled (now (lo .exit)) (λ k. tagOffset (getD (now (tags .entry)) k [])) (length (now (tags .entry))) × Filled (now (hi .exit)) (λ k. endIn (now (structures .entry)) (getD (now (tags .entry)) k [])) (length (now (tags .entry))) ⌝ }
+    ensures { λ r. ⌜ Filled (now (lo .exit)) (λ k. tagOffset (getD (now (tags .entry)) k [])) (length (now (tags .entry)))
+        × Filled (now (hi .exit)) (λ k. endIn (now (structures .entry)) (getD (now (tags .entry)) k [])) (length (now (tags .entry))) ⌝ }
 {
     let mut i = 0;
     while i < tags.len() {
@@ -172,7 +181,9 @@ fn byte_spans(
 
 fn names_differ(tags: &[[u32; 12]], others: &[[u32; 5]], tag_names: &[u8], names: &[u8]) -> usize
     requires { ⌜ length (now tags) + length (now others) ≤ 1088 ⌝ }
-    ensures { λ r. ⌜ (r ≡ 0 → (pairs (tagNamesDiffer (now («tag_names» .entry))) (now (tags .entry)) ≡ true) × (every (λ t. every (otherNamesDiffer (now («tag_names» .entry)) (now (names .entry)) t) (now (others .entry))) (now (tags .entry)) ≡ true)) ⌝ }
+    ensures { λ r. ⌜ (r ≡ 0 → (pairs (tagNamesDiffer (now («tag_names» .entry))) (now (tags .entry)) ≡ true)
+        × (every (λ t. every (otherNamesDiffer (now («tag_names» .entry)) (now (names .entry)) t) (now (others .entry))) (now (tags .entry)) ≡ true))
+        ⌝ }
 {
     let mut lo = [0; 1088];
     let mut hi = [0; 1088];
@@ -182,7 +193,8 @@ fn names_differ(tags: &[[u32; 12]], others: &[[u32; 5]], tag_names: &[u8], names
 
 fn ids_differ(tags: &[[u32; 12]], others: &[[u32; 5]]) -> usize
     requires { ⌜ length (now tags) + length (now others) ≤ 1088 ⌝ }
-    ensures { λ r. ⌜ (r ≡ 0 → (pairs idsDiffer (now (tags .entry)) ≡ true) × (every (λ t. every (idsDiffer t) (now (others .entry))) (now (tags .entry)) ≡ true) × (pairs idsDiffer (now (others .entry)) ≡ true)) ⌝ }
+    ensures { λ r. ⌜ (r ≡ 0 → (pairs idsDiffer (now (tags .entry)) ≡ true) ×
+        (every (λ t. every (idsDiffer t) (now (others .entry))) (now (tags .entry)) ≡ true) × (pairs idsDiffer (now (others .entry)) ≡ true)) ⌝ }
 {
     let mut lo = [0; 1088];
     let mut hi = [0; 1088];
@@ -209,7 +221,8 @@ pub fn sure(
     names: &[u8],
     tag_names: &[u8],
 ) -> usize
-    ensures { λ r. ⌜ (r ≡ 0 → symbolsJudged (now (structures .entry)) (now (tags .entry)) (now (others .entry)) (now (names .entry)) (now («tag_names» .entry)) ≡ true) ⌝ }
+    ensures { λ r. ⌜ (r ≡ 0 → symbolsJudged (now (structures .entry)) (now (tags .entry)) (now (others .entry)) (now (names .entry))
+        (now («tag_names» .entry)) ≡ true) ⌝ }
 {
     if tags.len() < FEW {
         return crate::UNKNOWN;

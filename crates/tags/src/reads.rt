@@ -121,7 +121,8 @@ fn put_fragment(
     bytes: &[u8],
 ) -> usize
     requires { ⌜ (hasWord (statusOf status) ≡ false) × (8 ≤ length (now buf)) × (4 + headerSize ty + length (now bytes) ≤ length (now buf)) ⌝ }
-    ensures { λ r. ⌜ Written 0 (reply service (statusOf status) (typeHeader (now (structures .entry)) ty ++ now (bytes .entry))) (now (buf .entry)) r (now (buf .exit)) ⌝ }
+    ensures { λ r. ⌜ Written 0 (reply service (statusOf status) (typeHeader (now (structures .entry)) ty ++ now (bytes .entry))) (now (buf .entry)) r
+        (now (buf .exit)) ⌝ }
 {
     let used = cip::put_header(buf, service, status);
     let behind = used + model::types::put_type_header(buf, used, structures, ty);
@@ -141,7 +142,8 @@ fn send_from<'a>(
     buf: &mut [u8],
 ) -> usize
     requires { ⌜ (start + size ≤ length (now store)) × (room (q .limit) ≤ length (now buf)) ⌝ }
-    ensures { λ r. ⌜ Laid (q .limit) (sendFrom (q .service) (typeHeader (now (structures .entry)) ty) (part (now (store .entry)) start size) (q .offset) (q .limit)) (now (buf .entry)) r (now (buf .exit)) ⌝ }
+    ensures { λ r. ⌜ Laid (q .limit) (sendFrom (q .service) (typeHeader (now (structures .entry)) ty) (part (now (store .entry)) start size)
+        (q .offset) (q .limit)) (now (buf .entry)) r (now (buf .exit)) ⌝ }
 {
     if size <= q.offset {
         return cip::fail(buf, q.limit, q.service, Status::BeyondEnd);
@@ -165,7 +167,8 @@ fn send_selected<'a>(
     buf: &mut [u8],
 ) -> usize
     requires { ⌜ Aimed (now structures) (length (now memory)) g × (elements ≤ g .count) × (room (q .limit) ≤ length (now buf)) ⌝ }
-    ensures { λ r. ⌜ Laid (q .limit) (send (q .service) (granted (selection (now (structures .entry)) (targetOf g []) elements)) (now (memory .entry)) (q .offset) (q .limit)) (now (buf .entry)) r (now (buf .exit)) ⌝ }
+    ensures { λ r. ⌜ Laid (q .limit) (send (q .service) (granted (selection (now (structures .entry)) (targetOf g []) elements))
+        (now (memory .entry)) (q .offset) (q .limit)) (now (buf .entry)) r (now (buf .exit)) ⌝ }
 {
     let start = g.start;
     if g.bit != NO_BIT {
@@ -206,7 +209,8 @@ pub fn read<'a>(
     buf: &mut [u8],
 ) -> usize
     requires { ⌜ Aimed (now structures) (length (now memory)) g × (room limit ≤ length (now buf)) ⌝ }
-    ensures { λ r. ⌜ Laid limit (readReply (now (structures .entry)) (now (memory .entry)) service (targetOf g []) (now (body .entry)) limit) (now (buf .entry)) r (now (buf .exit)) ⌝ }
+    ensures { λ r. ⌜ Laid limit (readReply (now (structures .entry)) (now (memory .entry)) service (targetOf g []) (now (body .entry)) limit)
+        (now (buf .entry)) r (now (buf .exit)) ⌝ }
 {
     if body.len() < fields_size(service) {
         return cip::fail(buf, limit, service, Status::TooShort);

@@ -26,7 +26,8 @@ fn with_bit(b: u8, k: u32, value: u8) -> u8
 /// A write of one bit; the offset that 0x53 brings is ignored.
 pub fn write_bit(memory: &mut [u8], g: Target, w: Fields, value: &[u8]) -> Status
     requires { ⌜ (g .start < length (now memory)) × (g .bit < 8) ⌝ }
-    ensures { λ r. ⌜ Stores (writeBit (now (memory .entry)) (targetOf g []) (fieldsWith w (now (value .entry)))) (now (memory .entry)) r (now (memory .exit)) ⌝ }
+    ensures { λ r. ⌜ Stores (writeBit (now (memory .entry)) (targetOf g []) (fieldsWith w (now (value .entry)))) (now (memory .entry)) r
+        (now (memory .exit)) ⌝ }
 {
     if w.ty != BOOL {
         return Status::WrongType;

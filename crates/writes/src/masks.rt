@@ -23,7 +23,8 @@ fn mask_byte(b: u8, ors: u8, ands: u8) -> u8
 /// Masks as many bytes of memory as there are masks.
 fn apply_masks(memory: &mut [u8], at: usize, ors: &[u8], ands: &[u8])
     requires { ⌜ (length (now ands) ≡ length (now ors)) × (at + length (now ors) ≤ length (now memory)) ⌝ }
-    ensures { λ _. ⌜ now (memory .exit) ≡ put (now (memory .entry)) at (masked (part (now (memory .entry)) at (length (now (ors .entry)))) (now (ors .entry)) (now (ands .entry))) ⌝ }
+    ensures { λ _. ⌜ now (memory .exit) ≡ put (now (memory .entry)) at (masked (part (now (memory .entry)) at (length (now (ors .entry))))
+        (now (ors .entry)) (now (ands .entry))) ⌝ }
 {
     let mut j = 0;
     while j < ors.len() {

@@ -107,7 +107,8 @@ fn write_part(
     total: usize,
 ) -> Status
     requires { ⌜ g .start + total ≤ length (now memory) ⌝ }
-    ensures { λ r. ⌜ Stores (writePart service (targetOf g []) (fieldsWith w (now (value .entry))) total) (now (memory .entry)) r (now (memory .exit)) ⌝ }
+    ensures { λ r. ⌜ Stores (writePart service (targetOf g []) (fieldsWith w (now (value .entry))) total) (now (memory .entry)) r
+        (now (memory .exit)) ⌝ }
 {
     let start = g.start;
     if service == WRITE_FRAGMENTED {
@@ -139,7 +140,8 @@ fn write_value(
     value: &[u8],
 ) -> Status
     requires { ⌜ Aimed (now structures) (length (now memory)) g ⌝ }
-    ensures { λ r. ⌜ Stores (writeValue (now (structures .entry)) service (targetOf g []) (fieldsWith w (now (value .entry)))) (now (memory .entry)) r (now (memory .exit)) ⌝ }
+    ensures { λ r. ⌜ Stores (writeValue (now (structures .entry)) service (targetOf g []) (fieldsWith w (now (value .entry)))) (now (memory .entry))
+        r (now (memory .exit)) ⌝ }
 {
     if type_is(structures, g.ty, w.ty, w.handle) {
         if w.elements == 0 {
@@ -163,7 +165,8 @@ pub fn write(
     body: &[u8],
 ) -> Status
     requires { ⌜ Aimed (now structures) (length (now memory)) g ⌝ }
-    ensures { λ r. ⌜ Stores (writeStored (now (structures .entry)) (now (memory .entry)) service (targetOf g []) (now (body .entry))) (now (memory .entry)) r (now (memory .exit)) ⌝ }
+    ensures { λ r. ⌜ Stores (writeStored (now (structures .entry)) (now (memory .entry)) service (targetOf g []) (now (body .entry)))
+        (now (memory .entry)) r (now (memory .exit)) ⌝ }
 {
     if body.len() < 2 {
         return Status::TooShort;

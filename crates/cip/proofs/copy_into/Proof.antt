@@ -1,3 +1,4 @@
+-- The buffer is the old one with the source's first j bytes put in; behind the loop j is the source's length.
 use mathlib.Core.Path.{_≡_, refl, sym, ap, _∙_}
 use mathlib.Core.List.{List}
 use Prim.Native.Nat.{ℕ, _+_, _-_, _<_, _≤_}

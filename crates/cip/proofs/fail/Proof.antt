@@ -1,3 +1,4 @@
+-- A header has at most 6 bytes, so it fits the room; with zeros behind what was written it is a reply laid out.
 use Rattle.cip.proofs.Laws.{finished, header-short}
 use native.Mathlib.Omega.{arith}
 use Rattle.cip.specs.Statuses.{statusOf}

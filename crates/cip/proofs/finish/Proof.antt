@@ -1,3 +1,4 @@
+-- The zeros end where `room_of` says, which is the definition's room; the length goes back as it came.
 use mathlib.Core.Path.{refl, ap, _∙_}
 use Prim.Native.Nat.{ℕ}
 use Rattle.laws.specs.Put.{zeroed}

@@ -1,3 +1,4 @@
+-- Split on whether the status has an extended word; the pieces lie next to each other and make up the definition's header.
 use Rattle.cip.proofs.Laws.{header-with-word, header-without}
 use mathlib.Core.Path.{sym, _∙_}
 use borrow.Author.Needs.{needs}

@@ -1,3 +1,4 @@
+-- Three writes of one byte, next to each other, are one write of the three bytes.
 use mathlib.Core.Path.{refl}
 use Rattle.laws.proofs.Put.{put-then}
 use native.Mathlib.Omega.{arith}

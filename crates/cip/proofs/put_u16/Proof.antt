@@ -1,3 +1,4 @@
+-- Two writes of one byte, next to each other, are one write of the number's two bytes, the low one first.
 use mathlib.Core.Path.{refl}
 use Rattle.laws.proofs.Put.{put-then}
 use native.Mathlib.Omega.{arith}

@@ -1,3 +1,4 @@
+-- Setting one byte inside the buffer is putting a list of one byte there.
 use Rattle.laws.proofs.Put.{set-put}
 use native.Mathlib.Omega.{arith}
 use borrow.Author.Needs.{needs}

@@ -1,3 +1,4 @@
+-- The buffer is the old one with zeros from the start up to j; behind the loop j is the end.
 use mathlib.Core.Path.{_≡_, refl, ap, _∙_}
 use mathlib.Core.List.{List}
 use Prim.Native.Nat.{ℕ, _-_, _<_, _≤_}

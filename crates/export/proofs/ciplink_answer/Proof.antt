@@ -1,3 +1,4 @@
+-- The flags are those of the word, and the length is only widened; so the contract of `answer` is this one.
 use Rattle.export.proofs.Telling.{answer-told}
 use borrow.Author.Needs.{needs}
 use Rattle.export.proofs.ciplink_answer.Statement.{statement}

@@ -1,3 +1,4 @@
+-- The outcome is the definition's, under the flags of the word; a reply and a refusal are each told as their number.
 use native.Mathlib.Omega.{arith}
 use Rattle.export.proofs.Telling.{told-reply, told-refused}
 use mathlib.Core.Path.{refl}

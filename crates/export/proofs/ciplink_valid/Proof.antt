@@ -1,3 +1,4 @@
+-- The test of the tables is the definition's, and picks 1 or 0.
 use Rattle.laws.proofs.Chain.{chain, by-call}
 use borrow.Author.Needs.{needs}
 use Rattle.export.proofs.ciplink_valid.Statement.{statement}

@@ -1,3 +1,4 @@
+-- Each case of the outcome has the statement's number, and no sum leaves 64 bits.
 use Rattle.export.proofs.Telling.{whole-refused, whole-turned, whole-short}
 use borrow.Author.Needs.{needs}
 use Rattle.export.proofs.whole_code.Statement.{statement}

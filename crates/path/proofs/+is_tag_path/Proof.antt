@@ -1,3 +1,4 @@
+-- By the kind of the segment decoded, as in the definition; behind a program name one segment fewer is left, so the calls end.
 use Rattle.path.proofs.Forward.{name-fits}
 use Rattle.path.proofs.TagPaths.{tag-paths}
 use Prim.Native.Nat.{ℕ, _<_}

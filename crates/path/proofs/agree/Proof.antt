@@ -1,3 +1,4 @@
+-- Each byte before i agrees, so the test of the rest is the test of all.
 use Rattle.laws.specs.Zip.{agree}
 use Rattle.laws.proofs.Zip.{agrees}
 use Rattle.definition.specs.Names.{sameByte, sameName}

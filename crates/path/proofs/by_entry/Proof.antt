@@ -1,3 +1,4 @@
+-- The tests of kind and form in the statement's order; what each arm calls promises what the statement has there.
 use mathlib.Core.Path.{ap, _∙_}
 use Rattle.path.specs.Decode.{symbolOf, logicalOf}
 use Rattle.laws.proofs.Chain.{chain}

@@ -1,3 +1,4 @@
+-- The count so far and the segments from here on make the definition's answer; a segment ends behind its start, so the loop ends.
 use Rattle.path.proofs.Forward.{decoded-step}
 use mathlib.Core.Path.{_≡_}
 use Prim.Native.Nat.{_≤_, _-_}

@@ -1,3 +1,4 @@
+-- Inside the path the first byte's entry decides, as in the statement; past its end both are invalid.
 use Rattle.path.proofs.Cases.{decode-case}
 use Rattle.path.specs.Decode.{decodedAt}
 use Rattle.laws.proofs.Chain.{chain}

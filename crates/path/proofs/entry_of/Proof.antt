@@ -1,3 +1,4 @@
+-- The constant table holds the entry of each of the 256 bytes, by computation.
 use Rattle.definition.specs.Segment.{kindOf}
 use Rattle.laws.proofs.Table.{table}
 use Rattle.laws.proofs.Chain.{chain}

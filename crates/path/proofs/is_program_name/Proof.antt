@@ -1,3 +1,4 @@
+-- The tests in the order of the definition's: the length, then the first eight bytes against the prefix.
 use mathlib.Core.Path.{sym}
 use lib.Seq.{length-take-le}
 use native.Mathlib.Omega.{arith}

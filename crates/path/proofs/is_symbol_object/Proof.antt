@@ -1,3 +1,4 @@
+-- Each kind of segment has the statement's arm; an instance's is the test of the class.
 use mathlib.Core.Path.{refl}
 use borrow.Author.Needs.{needs}
 use Rattle.path.proofs.is_symbol_object.Statement.{statement}

@@ -1,3 +1,4 @@
+-- The tests in the order of the statement's; a link with a size is the port of the part that stands there.
 use mathlib.Core.Path.{ap, _∙_}
 use Rattle.path.specs.Decode.{portOf}
 use Rattle.laws.proofs.Chain.{chain}

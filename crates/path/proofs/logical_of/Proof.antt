@@ -1,3 +1,4 @@
+-- A value cut short is invalid; for a whole one the tests of the kind are in the statement's order.
 use Rattle.laws.proofs.Chain.{chain}
 use Rattle.path.proofs.Cases.{logical-case}
 use borrow.Author.Needs.{needs}

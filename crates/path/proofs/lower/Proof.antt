@@ -1,3 +1,4 @@
+-- The tests in the order of the definition's.
 use Rattle.laws.proofs.Chain.{chain}
 use borrow.Author.Needs.{needs}
 use Rattle.path.proofs.lower.Statement.{statement}

@@ -1,3 +1,4 @@
+-- By the kind of the segments decoded: a class with an instance behind it is the object, and other starts have none in the definition.
 use Rattle.path.proofs.Objects.{objects}
 use borrow.Author.Needs.{needs}
 use Rattle.path.proofs.object_at.Statement.{statement}

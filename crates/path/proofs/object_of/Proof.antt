@@ -1,3 +1,4 @@
+-- Each kind of segment has the statement's arm; an instance's makes the object.
 use mathlib.Core.Path.{refl}
 use borrow.Author.Needs.{needs}
 use Rattle.path.proofs.object_of.Statement.{statement}

@@ -1,3 +1,4 @@
+-- Inside the path the size byte is there, and the call promises the statement's part; past its end both are short.
 use Rattle.laws.proofs.Chain.{chain}
 use borrow.Author.Needs.{needs}
 use Rattle.path.proofs.part_at.Statement.{statement}

@@ -1,3 +1,4 @@
+-- A part is there or short, and each case has the statement's arm.
 use mathlib.Core.Path.{refl}
 use borrow.Author.Needs.{needs}
 use Rattle.path.proofs.port_of.Statement.{statement}

@@ -1,3 +1,4 @@
+-- Equal bytes are equal in lower case too; of others the lower cases are compared, as in the definition.
 use mathlib.Core.Path.{sym, ap}
 use Rattle.definition.specs.Names.{lower}
 use borrow.Author.Tests.{eq-eqb}

@@ -1,3 +1,4 @@
+-- Names of different lengths differ; two of one length are the same just where both their halves are.
 use Rattle.laws.proofs.Parts.{to-end}
 use lib.ListN.{length}
 use Prim.Native.Nat.{_/_}

@@ -1,3 +1,4 @@
+-- The decoder finds the definition's segment, and a symbol's name stands inside the path.
 use Rattle.path.proofs.Forward.{decoded}
 use borrow.Author.Needs.{needs}
 use Rattle.path.proofs.segment_at.Statement.{statement}

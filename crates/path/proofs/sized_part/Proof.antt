@@ -1,3 +1,4 @@
+-- One test, which is the statement's: whether the bytes and their pad end inside the path.
 use Rattle.laws.proofs.Chain.{chain}
 use borrow.Author.Needs.{needs}
 use Rattle.path.proofs.sized_part.Statement.{statement}

@@ -1,3 +1,4 @@
+-- A message too short for the path it announces is malformed; of any other the path's check decides, as in the statement.
 use native.Mathlib.Nat.{add-sub-cancel-left}
 use native.Mathlib.Omega.{arith}
 use mathlib.Core.Path.{sym, ap, _∙_}

@@ -1,3 +1,4 @@
+-- The slice from start to start + n has n bytes, which are that part of the path.
 use native.Mathlib.Nat.{add-sub-cancel-left}
 use borrow.Author.Needs.{needs}
 use Rattle.path.proofs.symbol_name.Statement.{statement}

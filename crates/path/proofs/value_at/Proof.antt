@@ -1,3 +1,4 @@
+-- The tests of form and length in the statement's order; each arm reads only bytes that stand in the path.
 use mathlib.Core.Path.{_∙_}
 use Rattle.laws.proofs.Chain.{chain}
 use borrow.Author.Needs.{needs}

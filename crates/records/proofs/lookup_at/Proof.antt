@@ -1,3 +1,4 @@
+-- The record is that of the row at i, by the call's contract, and the place is i.
 use borrow.Author.Needs.{needs}
 use Rattle.records.proofs.lookup_at.Statement.{statement}
 use Rattle.records.proofs.lookup_at.Tie as tie

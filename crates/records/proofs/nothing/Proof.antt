@@ -1,3 +1,4 @@
+-- The record of a row of zeros is that of no row, every number of which is 0.
 use borrow.Author.Needs.{needs}
 use Rattle.records.proofs.nothing.Statement.{statement}
 use Rattle.records.proofs.nothing.Tie as tie

@@ -1,3 +1,4 @@
+-- The row that is stored is the record's, by the call's contract.
 use mathlib.Core.Path.{ap}
 use mathlib.Core.List.{List}
 use Prim.Native.Nat.{ℕ}

@@ -1,3 +1,4 @@
+-- A row found is inside the table and its record is the answer; none is found just where the definition has none.
 use Rattle.records.proofs.Looking.{looks}
 use borrow.Author.Needs.{needs}
 use Rattle.records.proofs.tag_named.Statement.{statement}

@@ -1,3 +1,4 @@
+-- The tests in the order of `closedTo`.
 use Rattle.resolve.proofs.Answering.{closings}
 use Rattle.resolve.proofs.is_closed.Statement.{statement}
 use Rattle.resolve.proofs.is_closed.Tie as tie

@@ -1,3 +1,4 @@
+-- Two tests in the order of `deniedTo`.
 use Rattle.resolve.proofs.Answering.{denials}
 use borrow.Author.Needs.{needs}
 use Rattle.resolve.proofs.is_denied.Statement.{statement}

@@ -1,3 +1,4 @@
+-- The tests in the order of `refusedTo`; a type past the table has an empty row, which is no AOI.
 use Rattle.resolve.proofs.Answering.{refusals}
 use borrow.Author.Needs.{needs}
 use Rattle.resolve.proofs.refuses_locals.Statement.{statement}

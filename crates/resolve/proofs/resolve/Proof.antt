@@ -1,3 +1,4 @@
+-- The tag found is a row, whose whole stands in its tag; the walk from there is the definition's, whatever the other tables are.
 use Prim.Native.Nat.{_<_}
 use lib.ListN.{length}
 use Rattle.model.specs.Tables.{flagsOf}

@@ -1,3 +1,4 @@
+-- What was resolved is the definition's, and the test that denies it is the definition's too.
 use Rattle.resolve.proofs.Answering.{targets}
 use borrow.Author.Needs.{needs}
 use Rattle.resolve.proofs.tag_target.Statement.{statement}

@@ -1,3 +1,4 @@
+-- The row's indexed lengths without zeros are those that indexes are held against; the other fields are the row's own.
 use Rattle.resolve.specs.Answers.{wholeRow}
 use Rattle.resolve.proofs.Answering.{whole-lengths}
 use borrow.Author.Needs.{needs}

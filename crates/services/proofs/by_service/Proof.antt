@@ -1,3 +1,4 @@
+-- The tests in the definition's order: a symbol page, a tag service on a tag path, else the refusal by the path's object.
 use Rattle.services.proofs.Choosing.{by-page, by-tag, by-other}
 use borrow.Author.Needs.{needs}
 use Rattle.services.proofs.by_service.Statement.{statement}

@@ -1,3 +1,4 @@
+-- Two tests in the definition's order.
 use Rattle.laws.proofs.Chain.{by-call}
 use borrow.Author.Needs.{needs}
 use Rattle.services.proofs.is_tag_request.Statement.{statement}

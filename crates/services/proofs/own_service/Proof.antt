@@ -1,3 +1,4 @@
+-- The definition's tests of class, service and flag, nested: each way through them ends at what the definition picks.
 use Rattle.services.proofs.Choosing.{owns}
 use borrow.Author.Needs.{needs}
 use Rattle.services.proofs.own_service.Statement.{statement}

@@ -1,3 +1,4 @@
+-- An object's own service comes first, as in the definition; whichever it is, its function lays the definition's answer.
 use Rattle.listing.proofs.Laws.{in-store}
 use Rattle.services.proofs.Choosing.{plain-symbols, plain-structures, plain-template, plain-by}
 use borrow.Author.Needs.{needs}

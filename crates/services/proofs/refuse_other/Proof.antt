@@ -1,3 +1,4 @@
+-- The definition's cases of the path's object: none, class 0x02 or 0x6C, any other class.
 use Rattle.services.proofs.Choosing.{other-refusals}
 use borrow.Author.Needs.{needs}
 use Rattle.services.proofs.refuse_other.Statement.{statement}

@@ -1,3 +1,4 @@
+-- An argument's length is at most the buffer's, so the name lies in it.
 use borrow.Author.Needs.{needs}
 use Rattle.simulator.proofs.main.Statement.{statement}
 use Rattle.simulator.proofs.main.Tie as tie

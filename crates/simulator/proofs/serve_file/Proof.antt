@@ -1,3 +1,4 @@
+-- No more is read than the array holds, so the image is a part of it.
 use borrow.Author.Needs.{needs}
 use Rattle.simulator.proofs.serve_file.Statement.{statement}
 use Rattle.simulator.proofs.serve_file.Tie as tie

@@ -1,3 +1,4 @@
+-- Each program before i passes against those behind it, so the test of the rest is the test of all.
 use Prim.Native.Nat.{_≤_, _-_}
 use mathlib.Core.Path.{_≡_}
 use lib.ListN.{length, drop}

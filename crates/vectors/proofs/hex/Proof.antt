@@ -1,3 +1,4 @@
+-- All there is to show is that it ends and stays in bounds: each pass moves on by a byte, up to the end.
 use Prim.Native.Nat.{_≤_, _-_}
 use lib.ListN.{length}
 use borrow.Author.Needs.{needs}

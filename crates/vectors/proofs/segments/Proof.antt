@@ -1,3 +1,4 @@
+-- All there is to show is that it ends: a segment that does not end behind its start stops the loop, any other moves it on.
 use Prim.Native.Nat.{_-_}
 use lib.ListN.{length}
 use borrow.Author.Needs.{needs}

@@ -1,3 +1,4 @@
+-- All there is to show is that it ends and stays in bounds: there are 64 passes at most, and each keeps the buffer's length.
 use mathlib.Core.Path.{_≡_}
 use lib.ListN.{length}
 use Prim.Native.Nat.{_≤_, _-_}

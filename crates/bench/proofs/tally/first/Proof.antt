@@ -1,3 +1,4 @@
+-- All there is to show is that it stays in bounds: behind the test n is at most the length.
 use mathlib.Core.Path.{sym}
 use lib.Seq.{length-take-le}
 use borrow.Author.Needs.{needs}

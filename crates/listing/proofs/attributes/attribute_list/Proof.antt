@@ -1,3 +1,4 @@
+-- What was measured decides, as in the definition; a count that was found has all its numbers in the body.
 use mathlib.Core.Path.{sym, _∙_}
 use native.Mathlib.Omega.{arith}
 use Rattle.listing.proofs.Lists.{count-fits, list-missing, list-large, list-well}

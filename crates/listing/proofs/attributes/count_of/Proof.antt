@@ -1,3 +1,4 @@
+-- A body without a count is also shorter than any count asks; else the length that the count asks decides.
 use Rattle.listing.proofs.Lists.{missing-short}
 use Rattle.listing.specs.Objects.{countIn}
 use borrow.Author.Tests.{lt-ltb, le-ltb}

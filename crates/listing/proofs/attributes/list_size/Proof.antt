@@ -1,3 +1,4 @@
+-- After i numbers `used` is 6 plus the bytes of their entries; each has at most 16, so it cannot overflow.
 use Rattle.listing.proofs.Lists.{entries-begin, entriesTo, entries-size, value-short}
 use Prim.Native.Nat.{_+_, ℕ, _≤_, _-_, _*_}
 use mathlib.Core.Path.{_≡_, ap, _∙_}

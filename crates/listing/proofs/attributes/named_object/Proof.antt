@@ -1,3 +1,4 @@
+-- What the lookup found decides: a program's position, or a plain symbol.
 use Rattle.listing.specs.Objects.{programBy}
 use Rattle.listing.proofs.Objects.{object-at, object-none}
 use borrow.Author.Needs.{needs}

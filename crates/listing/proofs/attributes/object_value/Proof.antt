@@ -1,3 +1,4 @@
+-- By the kind of object: a structure and a program by their own calls, and a plain symbol has no value.
 use Rattle.listing.proofs.Lists.{value-case}
 use borrow.Author.Needs.{needs}
 use Rattle.listing.proofs.attributes.object_value.Statement.{statement}

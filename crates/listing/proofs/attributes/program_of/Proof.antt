@@ -1,3 +1,4 @@
+-- A program's name is longer than its prefix of 8 bytes, so what is looked up is the rest behind it; another name means none.
 use Rattle.listing.proofs.Objects.{rest-of, program-long}
 use Rattle.listing.specs.Objects.{programBy}
 use borrow.Author.Needs.{needs}

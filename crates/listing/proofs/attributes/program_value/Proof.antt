@@ -1,3 +1,4 @@
+-- Only 0x0D has a value; its instance is cut to the low 16 bits, and no others are sent.
 use Rattle.listing.proofs.Lists.{program-low}
 use Rattle.laws.proofs.Chain.{chain}
 use borrow.Author.Needs.{needs}

@@ -1,3 +1,4 @@
+-- Number, status word and value, each put right behind the one before it, are the entry; an unknown value has no bytes.
 use Rattle.listing.proofs.Lists.{entry-written}
 use borrow.Author.Needs.{needs}
 use Rattle.listing.proofs.attributes.put_entry.Statement.{statement}

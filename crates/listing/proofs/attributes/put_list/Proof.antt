@@ -1,3 +1,4 @@
+-- After i numbers just their entries stand from `at` on; as all entries fit, so does the next.
 use Rattle.listing.proofs.Lists.{entries-sum, entries-unput, entriesTo, entries-begin, entries-room, entries-put, entries-end}
 use mathlib.Core.Path.{_≡_, refl, ap, _∙_}
 use Prim.Native.Nat.{ℕ, _≤_, _-_, _+_}

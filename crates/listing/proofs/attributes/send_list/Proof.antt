@@ -1,3 +1,4 @@
+-- Header, count and entries, each put right behind the one before it, are the reply, which fits the limit.
 use Rattle.listing.proofs.Lists.{list-sent}
 use borrow.Author.Needs.{needs}
 use Rattle.listing.proofs.attributes.send_list.Statement.{statement}

@@ -1,3 +1,4 @@
+-- What the lookup found decides, as in the definition; an index that was found is a row's.
 use Rattle.listing.proofs.Laws.{template-inside}
 use Rattle.listing.proofs.Objects.{structure-listed, structure-unknown}
 use borrow.Author.Needs.{needs}

@@ -1,3 +1,4 @@
+-- The tests in the statement's order; a handle and a count are cut to the low 16 bits, and no others are sent.
 use Rattle.listing.proofs.Lists.{short-low, long-same}
 use Rattle.laws.proofs.Chain.{chain}
 use borrow.Author.Needs.{needs}

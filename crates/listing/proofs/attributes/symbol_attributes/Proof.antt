@@ -1,3 +1,4 @@
+-- If another symbol has the ID, its name decides; else no program is named, and the tags decide between a plain list and 0x05.
 use mathlib.Core.Path.{ap, _∙_}
 use Rattle.listing.specs.Objects.{programBy, programObject}
 use Rattle.listing.proofs.Objects.{id-inside, symbol-other, symbol-tag}

@@ -1,3 +1,4 @@
+-- What the lookup found decides, as in the statement.
 use Rattle.listing.proofs.Objects.{tag-listed, tag-unknown}
 use borrow.Author.Needs.{needs}
 use Rattle.listing.proofs.attributes.tag_attributes.Statement.{statement}

@@ -1,3 +1,4 @@
+-- A name has two bytes more than its text; any other attribute is a value, which has at most 12.
 use native.Mathlib.Omega.{arith}
 use Rattle.listing.proofs.Lists.{value-short}
 use Rattle.listing.proofs.Attributed.{name-length, other-length}

@@ -1,3 +1,4 @@
+-- After i numbers `used` is 4 plus the bytes of their attributes; each has at most 2^32 + 1, so it cannot overflow.
 use mathlib.Core.Path.{_≡_, ap, _∙_}
 use Prim.Native.Nat.{ℕ, _≤_, _-_, _*_, _+_}
 use native.Mathlib.Omega.{arith}

@@ -1,3 +1,4 @@
+-- A name is its length and, right behind it, its text; any other attribute has the bytes of its value.
 use native.Mathlib.Omega.{arith}
 use Rattle.listing.proofs.Attributed.{name-length, name-written, other-room, other-written}
 use borrow.Author.Needs.{needs}

@@ -1,3 +1,4 @@
+-- After i numbers just their attributes stand from `at` on; as all attributes fit, so does the next.
 use mathlib.Core.Path.{_≡_, refl, ap, _∙_}
 use Prim.Native.Nat.{ℕ, _≤_, _-_, _+_}
 use native.Mathlib.Omega.{arith}

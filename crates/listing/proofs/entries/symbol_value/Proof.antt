@@ -1,3 +1,4 @@
+-- The tests in the statement's order; a type and a size are cut to the low 16 bits, and no others are sent.
 use Rattle.laws.proofs.Chain.{chain}
 use Rattle.listing.specs.Entries.{otherAttribute}
 use Rattle.listing.proofs.Attributed.{low-same, long-of}

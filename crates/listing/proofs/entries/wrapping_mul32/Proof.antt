@@ -1,3 +1,4 @@
+-- The product of two numbers of 32 bits fits 64 bits, so the remainder is that of the product itself.
 use Rattle.listing.proofs.Attributed.{product-fits}
 use borrow.Author.Needs.{needs}
 use Rattle.listing.proofs.entries.wrapping_mul32.Statement.{statement}

@@ -1,3 +1,4 @@
+-- All numbers before i are listed; the first that is not decides, and behind the loop all are.
 use mathlib.Core.Path.{_≡_, sym, ap, _∙_}
 use mathlib.Core.Bool.{true}
 use Prim.Native.Nat.{ℕ, _≤_, _-_}

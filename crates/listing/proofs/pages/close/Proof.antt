@@ -1,3 +1,4 @@
+-- A header without an extended word has four bytes, so it fills the place before the data and leaves these as they are.
 use Rattle.listing.proofs.Filled.{closed}
 use borrow.Author.Needs.{needs}
 use Rattle.listing.proofs.pages.close.Statement.{statement}

@@ -1,3 +1,4 @@
+-- What was measured decides: the entry is left out, or ID and attributes are put in, which have at least the ID's four bytes.
 use mathlib.Core.Path.{_≡_, refl}
 use Prim.Native.Nat.{_+_, _≤_}
 use lib.ListN.{length, drop}

@@ -1,3 +1,4 @@
+-- Two tests in the statement's order.
 use Rattle.laws.proofs.Chain.{chain}
 use Rattle.listing.proofs.pages.is_at.Statement.{statement}
 use Rattle.listing.proofs.pages.is_at.Tie as tie

@@ -1,3 +1,4 @@
+-- The numbers one by one, in the definition's order.
 use Rattle.definition.specs.Symbols.{isListed}
 use Rattle.laws.proofs.Chain.{chain}
 use Rattle.listing.proofs.Made.{either-on, either-off}

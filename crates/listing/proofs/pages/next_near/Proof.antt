@@ -1,3 +1,4 @@
+-- No ID due is below the bound and no other symbol of the scope has it, so a tag with that ID is what the search finds.
 use mathlib.Core.Path.{sym, _∙_}
 use Rattle.listing.proofs.Hinted.{hint-next}
 use borrow.Author.Needs.{needs}

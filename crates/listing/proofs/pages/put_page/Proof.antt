@@ -1,3 +1,4 @@
+-- The page of the entries put so far and of those still due is the page asked for; each turn adds at least four bytes.
 use Rattle.listing.proofs.Filled.{Filled, filled-none, entry-added, page-stopped, page-ended, further-more}
 use Prim.Native.Nat.{_≤_, _-_}
 use mathlib.Core.Path.{_≡_, refl}

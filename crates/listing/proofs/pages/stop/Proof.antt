@@ -1,3 +1,4 @@
+-- One test, as in the statement; each arm is one call, whose contract is that answer.
 use borrow.Author.Tests.{eq-eqb, ne-eqb}
 use borrow.Author.Needs.{needs}
 use Rattle.listing.proofs.pages.stop.Statement.{statement}

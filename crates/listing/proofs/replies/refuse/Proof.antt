@@ -1,3 +1,4 @@
+-- A refusal without an extended word has four bytes, so it exceeds the limit just where the limit is below four.
 use Rattle.listing.proofs.Laws.{refused-large, refused-well}
 use borrow.Author.Needs.{needs}
 use Rattle.listing.proofs.replies.refuse.Statement.{statement}

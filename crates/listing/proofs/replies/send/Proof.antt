@@ -1,3 +1,4 @@
+-- A header without an extended word has four bytes; the data, put right behind it, make up the reply, which has room.
 use Rattle.listing.proofs.Laws.{sent}
 use borrow.Author.Needs.{needs}
 use Rattle.listing.proofs.replies.send.Statement.{statement}

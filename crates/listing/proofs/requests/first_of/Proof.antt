@@ -1,3 +1,4 @@
+-- By the kind of segment, as in the statement: only a symbol is a name.
 use borrow.Author.Needs.{needs}
 use Rattle.listing.proofs.requests.first_of.Statement.{statement}
 use Rattle.listing.proofs.requests.first_of.Tie as tie

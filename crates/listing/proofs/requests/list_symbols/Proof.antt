@@ -1,3 +1,4 @@
+-- The definition's refusals in its order: the start, the list, its numbers; what is left is the page.
 use Rattle.listing.proofs.Starts.{lists-unknown, lists-missing, lists-page, lists-refused, some-valid, few-programs}
 use mathlib.Core.Path.{sym, _∙_}
 use native.Mathlib.Omega.{arith}

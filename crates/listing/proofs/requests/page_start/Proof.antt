@@ -1,3 +1,4 @@
+-- Behind a name, the rest is read in the scope of the program that it means, if any; without one, all of the path in scope 0.
 use native.Mathlib.Omega.{arith}
 use Rattle.listing.proofs.Starts.{page-starts, program-inside}
 use borrow.Author.Needs.{needs}

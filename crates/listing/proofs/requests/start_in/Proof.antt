@@ -1,3 +1,4 @@
+-- The object found is the first two segments; there is a start just if its class is 0x6B and no segment follows.
 use Rattle.listing.proofs.Starts.{starts}
 use borrow.Author.Needs.{needs}
 use Rattle.listing.proofs.requests.start_in.Statement.{statement}

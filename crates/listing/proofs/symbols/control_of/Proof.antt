@@ -1,3 +1,4 @@
+-- One test, as in the statement.
 use Rattle.laws.proofs.Chain.{chain}
 use Rattle.listing.proofs.symbols.control_of.Statement.{statement}
 use Rattle.listing.proofs.symbols.control_of.Tie as tie

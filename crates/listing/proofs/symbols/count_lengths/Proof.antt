@@ -1,3 +1,4 @@
+-- The first length that is 0 ends the count, as in the definition.
 use borrow.Author.Tests.{eq-eqb, ne-eqb}
 use borrow.Author.Needs.{needs}
 use Rattle.listing.proofs.symbols.count_lengths.Statement.{statement}

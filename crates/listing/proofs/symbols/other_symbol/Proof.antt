@@ -1,3 +1,4 @@
+-- Each field is the definition's by itself: a word of the row, or 0.
 use mathlib.Core.Path.{refl}
 use Rattle.definition.specs.Symbols.{otherSymbol}
 use borrow.Author.Needs.{needs}

@@ -1,3 +1,4 @@
+-- What the lookup found decides, as in the definition; an index that was found is a row's, whose template lies in the store.
 use Rattle.listing.proofs.Laws.{template-inside, read-found, read-unknown}
 use borrow.Author.Needs.{needs}
 use Rattle.listing.proofs.templates.read_template.Statement.{statement}

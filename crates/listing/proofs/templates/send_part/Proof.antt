@@ -1,3 +1,4 @@
+-- A cut to nothing is refused; else what is sent is the lesser of due and space, which fits, and the status says if it is all.
 use lib.Dec.{leb}
 use Rattle.listing.proofs.Laws.{sent-none, sent-part, part-fits, no-word}
 use borrow.Author.Needs.{needs}

@@ -1,3 +1,4 @@
+-- The refusals in the statement's order; an offset that passes lies in the template, and so does what is sent from it on.
 use Rattle.listing.proofs.Laws.{asked-short, asked-beyond, asked-well}
 use borrow.Author.Needs.{needs}
 use Rattle.listing.proofs.templates.template_reply.Statement.{statement}

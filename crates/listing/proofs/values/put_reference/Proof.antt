@@ -1,3 +1,4 @@
+-- The fixed bytes of the path and, put right behind them, the instance are the reference.
 use mathlib.Core.Path.{refl}
 use native.Mathlib.Omega.{arith}
 use Rattle.laws.proofs.Put.{put-then}

@@ -1,3 +1,4 @@
+-- Three words of four bytes, each put right behind the one before it.
 use mathlib.Core.Path.{refl}
 use native.Mathlib.Omega.{arith}
 use Rattle.laws.proofs.Put.{put-then}

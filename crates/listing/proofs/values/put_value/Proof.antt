@@ -1,3 +1,4 @@
+-- By the kind of value: each arm puts in the bytes of its layout and returns their number; an unknown value has none.
 use Rattle.listing.proofs.Sizes.{value-none, value-room, value-written}
 use native.Mathlib.Omega.{arith}
 use mathlib.Core.Path.{refl}

@@ -1,3 +1,4 @@
+-- The definition's four refusals in its order, with nothing written; what passes them meets all that `answer` requires.
 use native.Mathlib.Omega.{arith}
 use mathlib.Core.Path.{sym, _∙_}
 use Rattle.logix.proofs.Entered.{enters-long, enters-large, enters-short, enters-invalid, enters-well}

@@ -1,3 +1,4 @@
+-- Past the limit the refusal is laid; else header and count are put at the front, and zeros from the parts' end on.
 use Rattle.logix.proofs.Placing.{closed, closed-late}
 use borrow.Author.Needs.{needs}
 use Rattle.logix.proofs.parts.close.Statement.{statement}

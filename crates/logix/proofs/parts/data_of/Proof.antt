@@ -1,3 +1,4 @@
+-- A slice up to the end is what `drop` leaves.
 use Prim.Native.Nat.{_+_}
 use Rattle.laws.proofs.Parts.{to-end}
 use borrow.Author.Needs.{needs}

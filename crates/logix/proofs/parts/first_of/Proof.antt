@@ -1,3 +1,4 @@
+-- An empty slice has no first byte, and the definition then has 0.
 use Rattle.laws.proofs.Parts.{first-none}
 use borrow.Author.Needs.{needs}
 use Rattle.logix.proofs.parts.first_of.Statement.{statement}

@@ -1,3 +1,4 @@
+-- Without the count or all offsets the definition has no parts; else it has them just where the offsets are in order.
 use Rattle.logix.proofs.Offsets.{has-few, has-none, has-order}
 use borrow.Author.Needs.{needs}
 use Rattle.logix.proofs.parts.has_parts.Statement.{statement}

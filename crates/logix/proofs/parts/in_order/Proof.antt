@@ -1,3 +1,4 @@
+-- The offsets from i on, held against the last one that was passed, are in order just where all of them are.
 use Prim.Native.Nat.{_≤_, _-_}
 use mathlib.Core.Path.{refl}
 use native.Mathlib.Omega.{arith}

@@ -1,3 +1,4 @@
+-- Another service is no envelope; of this one the path's object decides, which is that of its segments.
 use Rattle.logix.proofs.Dispatching.{other-service, objects}
 use borrow.Author.Needs.{needs}
 use Rattle.logix.proofs.parts.is_envelope.Statement.{statement}

@@ -1,3 +1,4 @@
+-- Two tests in the definition's order.
 use Rattle.laws.proofs.Chain.{chain}
 use Rattle.logix.proofs.parts.is_router.Statement.{statement}
 use Rattle.logix.proofs.parts.is_router.Tie as tie

@@ -1,3 +1,4 @@
+-- Offset i stands at byte 2 + 2 * i; behind the last one the body's end takes its place.
 use Rattle.logix.proofs.Offsets.{mark-in, mark-end}
 use borrow.Author.Needs.{needs}
 use Rattle.logix.proofs.parts.mark.Statement.{statement}

@@ -1,3 +1,4 @@
+-- Offsets in order start behind themselves, do not fall back and do not pass the end, so a part lies in the body and is shorter.
 use Rattle.logix.proofs.Offsets.{marks}
 use borrow.Author.Needs.{needs}
 use Rattle.logix.proofs.parts.part_of.Statement.{statement}

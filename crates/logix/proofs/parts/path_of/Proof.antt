@@ -1,3 +1,4 @@
+-- The slice from 2 to 2 + size is size bytes long.
 use native.Mathlib.Nat.{add-sub-cancel-left}
 use borrow.Author.Needs.{needs}
 use Rattle.logix.proofs.parts.path_of.Statement.{statement}

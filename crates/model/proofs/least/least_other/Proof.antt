@@ -1,3 +1,4 @@
+-- The best so far is the fold over the rows from i on; at 0 it is the fold over all.
 use Rattle.laws.proofs.Fold.{folds}
 use Rattle.model.specs.declared.least.Least.the-variants.{Empty}
 use Rattle.model.specs.Least.{leastRow, leastIn}

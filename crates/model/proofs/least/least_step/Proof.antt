@@ -1,3 +1,4 @@
+-- The tests in the order of the statement's; the call behind them promises the nearer of the row and the rest.
 use Rattle.laws.proofs.Chain.{chain, by-call}
 use borrow.Author.Needs.{needs}
 use Rattle.model.proofs.least.least_step.Statement.{statement}

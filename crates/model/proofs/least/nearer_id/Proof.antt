@@ -1,3 +1,4 @@
+-- Where the rest has a row the lower ID decides, as in the statement; where it has none, the row itself is nearest.
 use Rattle.model.proofs.Cases.{cases}
 use Rattle.laws.proofs.Chain.{chain}
 use borrow.Author.Needs.{needs}

@@ -1,3 +1,4 @@
+-- Split on whether there is a tag; the call in each arm promises what the statement has there.
 use Rattle.model.proofs.Cases.{cases}
 use Rattle.laws.proofs.Chain.{chain}
 use borrow.Author.Needs.{needs}

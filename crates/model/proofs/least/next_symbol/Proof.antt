@@ -1,3 +1,4 @@
+-- Three calls, whose contracts put into each other are this one.
 use mathlib.Core.Path.{refl}
 use borrow.Author.Needs.{needs}
 use Rattle.model.proofs.least.next_symbol.Statement.{statement}

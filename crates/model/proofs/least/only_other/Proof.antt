@@ -1,3 +1,4 @@
+-- Another symbol is there or not, and each case has the statement's arm.
 use mathlib.Core.Path.{refl}
 use borrow.Author.Needs.{needs}
 use Rattle.model.proofs.least.only_other.Statement.{statement}

@@ -1,3 +1,4 @@
+-- Where there is another symbol the lower ID decides, as in the statement; where there is none, it is the tag.
 use Rattle.model.proofs.Cases.{cases}
 use Rattle.laws.proofs.Chain.{chain}
 use borrow.Author.Needs.{needs}

@@ -1,3 +1,4 @@
+-- No member before i that is not hidden has that name, so the search of the rest is the search of all.
 use Prim.Native.Nat.{_≤_, _-_}
 use mathlib.Core.Path.{_≡_}
 use lib.ListN.{length, drop}

@@ -1,3 +1,4 @@
+-- No symbol before i has that scope and ID, so the search of the rest is the search of all.
 use Prim.Native.Nat.{_≤_, _-_}
 use mathlib.Core.Path.{_≡_}
 use lib.ListN.{length, drop}

@@ -1,3 +1,4 @@
+-- The tests in the order of the statement's: the scope, then the ID.
 use Rattle.laws.proofs.Chain.{chain}
 use Rattle.model.proofs.lookup.id_is.Statement.{statement}
 use Rattle.model.proofs.lookup.id_is.Tie as tie

@@ -1,3 +1,4 @@
+-- A part that starts or runs past the store's end is cut there, in the list as in the slice; any other is there whole.
 use Rattle.model.proofs.Laws.{parts}
 use borrow.Author.Needs.{needs}
 use Rattle.model.proofs.lookup.part_of.Statement.{statement}

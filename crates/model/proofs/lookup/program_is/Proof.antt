@@ -1,3 +1,4 @@
+-- The name is that part of the store, so the contract of the comparison is this one.
 use mathlib.Core.Path.{refl}
 use borrow.Author.Needs.{needs}
 use Rattle.model.proofs.lookup.program_is.Statement.{statement}

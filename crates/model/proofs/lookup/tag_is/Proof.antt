@@ -1,3 +1,4 @@
+-- The tests in the order of the statement's: the scope, then the name, which is that part of the store.
 use Rattle.laws.proofs.Chain.{chain}
 use borrow.Author.Needs.{needs}
 use Rattle.model.proofs.lookup.tag_is.Statement.{statement}

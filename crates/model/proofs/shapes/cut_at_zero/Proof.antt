@@ -1,3 +1,4 @@
+-- The tests in the order of the statement's: the first length, then the second.
 use Rattle.laws.proofs.Chain.{chain}
 use borrow.Author.Needs.{needs}
 use Rattle.model.proofs.shapes.cut_at_zero.Statement.{statement}

@@ -1,3 +1,4 @@
+-- What `is_dword_array` answers is the statement's test, and picks its arm; the other arm's call promises the lengths cut.
 use Rattle.laws.proofs.Chain.{by-call}
 use borrow.Author.Needs.{needs}
 use Rattle.model.proofs.shapes.indexed.Statement.{statement}

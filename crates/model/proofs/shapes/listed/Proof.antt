@@ -1,3 +1,4 @@
+-- What `is_dword_array` answers is the statement's test, and picks its arm.
 use Rattle.laws.proofs.Chain.{by-call}
 use borrow.Author.Needs.{needs}
 use Rattle.model.proofs.shapes.listed.Statement.{statement}

@@ -1,3 +1,4 @@
+-- The words read are the row's type, lengths and elements, so the two calls promise the statement's two lists.
 use denote.Ref.{now}
 use Rattle.definition.specs.Tables.{tagType, tagElements}
 use Rattle.model.specs.Shapes.{shapesOf, listed3, indexed3, lengths3}

@@ -1,3 +1,4 @@
+-- The tests in the order of the definition's, and the constant tables are its lists.
 use Rattle.laws.proofs.Chain.{chain}
 use Rattle.definition.specs.Types.{atomicSize}
 use borrow.Author.Needs.{needs}

@@ -1,3 +1,4 @@
+-- Atomic or a structure, as in the definition; a structure's row is the one at the type word less 0x100.
 use Rattle.laws.proofs.Chain.{chain}
 use Rattle.definition.specs.Types.{sizeIn}
 use borrow.Author.Needs.{needs}

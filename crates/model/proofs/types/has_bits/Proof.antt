@@ -1,3 +1,4 @@
+-- The tests in the order of the definition's; a type whose size is 0 is no atomic one.
 use Rattle.laws.proofs.Chain.{chain}
 use Rattle.definition.specs.Types.{hasBits}
 use Rattle.model.proofs.Laws.{atomic, not-atomic}

@@ -1,3 +1,4 @@
+-- Atomic or a structure; the writes lie next to each other and make up the header, as a handle's low 16 bits give the same bytes.
 use Rattle.model.proofs.Laws.{headers}
 use borrow.Author.Needs.{needs}
 use Rattle.model.proofs.types.put_type_header.Statement.{statement}

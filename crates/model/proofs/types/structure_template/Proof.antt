@@ -1,3 +1,4 @@
+-- Inside the table it is the row's word; past its end a row has no words, and 0 stands for each.
 use Rattle.model.proofs.Laws.{no-row}
 use borrow.Author.Needs.{needs}
 use Rattle.model.proofs.types.structure_template.Statement.{statement}

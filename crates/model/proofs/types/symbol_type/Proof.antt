@@ -1,3 +1,4 @@
+-- Atomic or a structure, as in the definition; a structure's row is the one at the type word less 0x100.
 use mathlib.Core.Path.{refl}
 use borrow.Author.Tests.{lt-leb, le-leb}
 use Rattle.definition.specs.Types.{symbolType}

@@ -1,3 +1,4 @@
+-- A list with all its numbers is accepted just where each of them is known, as in the definition.
 use mathlib.Core.Path.{sym, _∙_}
 use Rattle.pallet.proofs.Outcomes.{accepted-missing, accepted-fits, accepted-all, accepted-unknown}
 use borrow.Author.Needs.{needs}

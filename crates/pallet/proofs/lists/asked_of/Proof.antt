@@ -1,3 +1,4 @@
+-- Scope and list are asked for in the definition's order; without one of them nothing is granted.
 use Rattle.pallet.proofs.Outcomes.{asked-nowhere, asked-refused, asked-both}
 use borrow.Author.Needs.{needs}
 use Rattle.pallet.proofs.lists.asked_of.Statement.{statement}

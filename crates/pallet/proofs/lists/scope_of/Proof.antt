@@ -1,3 +1,4 @@
+-- No name is scope 0; a program that is found is a row, so its position plus one is exact.
 use Rattle.listing.proofs.Starts.{program-inside}
 use mathlib.Core.Path.{refl}
 use Rattle.pallet.proofs.Outcomes.{scope-controller, scope-known, scope-unknown}

@@ -1,3 +1,4 @@
+-- Two tests in the definition's order.
 use Rattle.laws.proofs.Chain.{chain}
 use Rattle.pallet.proofs.pages.is_askable.Statement.{statement}
 use Rattle.pallet.proofs.pages.is_askable.Tie as tie

@@ -1,3 +1,4 @@
+-- Each piece is put right behind the one before it, so that all of them are the request; an askable one fits the message.
 use mathlib.Core.Path.{refl}
 use native.Mathlib.Omega.{arith}
 use Rattle.pallet.proofs.Asking.{askable-short, list-put}

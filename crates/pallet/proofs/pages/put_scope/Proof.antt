@@ -1,3 +1,4 @@
+-- Segment byte, length and name are put one behind the other, with a pad behind an odd name; without a name nothing is put.
 use mathlib.Core.Path.{refl}
 use Rattle.pallet.proofs.Asking.{scope-none, scope-put-even, scope-put-odd}
 use borrow.Author.Needs.{needs}

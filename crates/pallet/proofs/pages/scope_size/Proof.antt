@@ -1,3 +1,4 @@
+-- A segment is the name with two bytes before it and a pad behind an odd one; without a name there is none.
 use Rattle.pallet.proofs.Asking.{size-none, size-named}
 use borrow.Author.Needs.{needs}
 use Rattle.pallet.proofs.pages.scope_size.Statement.{statement}

@@ -1,3 +1,4 @@
+-- An askable request has at most 1,292 bytes, so the message's first n are the request; the answer is the dispatcher's.
 use native.Mathlib.Omega.{arith}
 use Rattle.pallet.proofs.Asking.{list-short, list-part}
 use borrow.Author.Needs.{needs}

@@ -1,3 +1,4 @@
+-- Each piece is put right behind the one before it, so that all of them are the request; a sendable path's words fit one byte.
 use mathlib.Core.Path.{refl}
 use Rattle.pallet.proofs.Sending.{sendable-words, request-put}
 use borrow.Author.Needs.{needs}

@@ -1,3 +1,4 @@
+-- A sendable path has at most 510 bytes, so the message's first n are the request; the answer is the dispatcher's.
 use native.Mathlib.Omega.{arith}
 use Rattle.pallet.proofs.Sending.{sendable-words, request-length, request-part}
 use borrow.Author.Needs.{needs}

@@ -1,3 +1,4 @@
+-- The grant is the definition's; elements that are granted are no more than the target has, so their bytes fit.
 use Rattle.pallet.proofs.Sizing.{sized-none, sized-bit, sized-elements, sized-few}
 use borrow.Author.Needs.{needs}
 use Rattle.pallet.proofs.sizes.granted_size.Statement.{statement}

@@ -1,3 +1,4 @@
+-- The definition's cases in its order: no segments, no tag path, no target; a target that is found lies in tag memory.
 use native.Mathlib.Omega.{arith}
 use lib.ListN.{length}
 use Rattle.pallet.proofs.Sizing.{check-some, size-cut, size-no-tag, size-turned, size-aimed, size-found}

@@ -1,3 +1,4 @@
+-- A symbol that is found has an ID not below the bound, so the bound has 32 bits.
 use Rattle.pallet.proofs.Walking.{tag-above, other-above, start-tag, start-other, start-none}
 use borrow.Author.Needs.{needs}
 use Rattle.pallet.proofs.walks.start_from.Statement.{statement}

@@ -1,3 +1,4 @@
+-- Past the end no bytes are held; else n fits into what is left just where the end of n bytes is inside the path.
 use Rattle.path.proofs.Cursors.{holds-past, holds-by}
 use borrow.Author.Needs.{needs}
 use Rattle.path.proofs.reader.holds.Statement.{statement}

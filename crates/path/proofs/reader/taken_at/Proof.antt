@@ -1,3 +1,4 @@
+-- Whether n bytes stand in the path is asked first, so their end is inside it, and either answer is the statement's arm.
 use borrow.Author.Needs.{needs}
 use Rattle.path.proofs.Cursors.{reads}
 use Rattle.path.proofs.reader.taken_at.Statement.{statement}

@@ -1,3 +1,4 @@
+-- Whether two bytes stand in the path is asked first, so the read is inside it, and either answer is the statement's arm.
 use borrow.Author.Needs.{needs}
 use Rattle.path.proofs.Cursors.{reads}
 use Rattle.path.proofs.reader.word_at.Statement.{statement}

@@ -1,3 +1,4 @@
+-- Two calls: the check is `checkOf`'s, and its answer is numbered.
 use borrow.Author.Needs.{needs}
 use Rattle.probe.proofs.paths.probe_check_path.Statement.{statement}
 use Rattle.probe.proofs.paths.probe_check_path.Tie as tie

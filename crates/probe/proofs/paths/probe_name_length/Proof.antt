@@ -1,3 +1,4 @@
+-- A decoded name lies in the path, so it has as many bytes as its segment says.
 use Rattle.probe.proofs.Numbers.{numbered}
 use borrow.Author.Needs.{needs}
 use Rattle.probe.proofs.paths.probe_name_length.Statement.{statement}

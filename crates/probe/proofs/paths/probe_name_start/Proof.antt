@@ -1,3 +1,4 @@
+-- A decoded name stands two bytes behind the start of its segment; any other segment has 0 here and in the definition.
 use Rattle.probe.proofs.Numbers.{numbered}
 use borrow.Author.Needs.{needs}
 use Rattle.probe.proofs.paths.probe_name_start.Statement.{statement}

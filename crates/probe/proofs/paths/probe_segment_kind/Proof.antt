@@ -1,3 +1,4 @@
+-- The segment decoded is the definition's, and kind by kind the numbers agree.
 use Rattle.probe.proofs.Numbers.{numbered}
 use borrow.Author.Needs.{needs}
 use Rattle.probe.proofs.paths.probe_segment_kind.Statement.{statement}

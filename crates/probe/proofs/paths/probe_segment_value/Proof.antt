@@ -1,3 +1,4 @@
+-- The segment decoded is the definition's, and kind by kind the values agree.
 use Rattle.probe.proofs.Numbers.{numbered}
 use borrow.Author.Needs.{needs}
 use Rattle.probe.proofs.paths.probe_segment_value.Statement.{statement}

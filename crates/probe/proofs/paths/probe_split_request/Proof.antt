@@ -1,3 +1,4 @@
+-- Two calls: the split is `splitOf`'s, and its answer is numbered.
 use borrow.Author.Needs.{needs}
 use Rattle.probe.proofs.paths.probe_split_request.Statement.{statement}
 use Rattle.probe.proofs.paths.probe_split_request.Tie as tie

@@ -1,3 +1,4 @@
+-- A path that passes the check has segments, so the test may be put to it; one that does not has none.
 use Rattle.probe.proofs.Numbers.{tested}
 use borrow.Author.Needs.{needs}
 use Rattle.probe.proofs.paths.probe_tag_path.Statement.{statement}

@@ -1,3 +1,4 @@
+-- Two calls: the lookup is the definition's, and its answer is numbered.
 use borrow.Author.Needs.{needs}
 use Rattle.probe.proofs.tables.probe_find_tag.Statement.{statement}
 use Rattle.probe.proofs.tables.probe_find_tag.Tie as tie

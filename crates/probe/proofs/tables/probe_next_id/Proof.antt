@@ -1,3 +1,4 @@
+-- Two calls: the next symbol is `nextIn`'s, and its ID is taken.
 use borrow.Author.Needs.{needs}
 use Rattle.probe.proofs.tables.probe_next_id.Statement.{statement}
 use Rattle.probe.proofs.tables.probe_next_id.Tie as tie

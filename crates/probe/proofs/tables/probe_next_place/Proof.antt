@@ -1,3 +1,4 @@
+-- Two calls: the next symbol is `nextIn`'s, and its place is taken.
 use borrow.Author.Needs.{needs}
 use Rattle.probe.proofs.tables.probe_next_place.Statement.{statement}
 use Rattle.probe.proofs.tables.probe_next_place.Tie as tie

@@ -1,3 +1,4 @@
+-- Two calls: the next symbol is `nextIn`'s, and its table is taken.
 use borrow.Author.Needs.{needs}
 use Rattle.probe.proofs.tables.probe_next_side.Statement.{statement}
 use Rattle.probe.proofs.tables.probe_next_side.Tie as tie

@@ -1,3 +1,4 @@
+-- The shapes are `shapesOf`'s, two lists of three, and what is required keeps both indexes inside.
 use borrow.Author.Needs.{needs}
 use Rattle.probe.proofs.tables.probe_shape.Statement.{statement}
 use Rattle.probe.proofs.tables.probe_shape.Tie as tie

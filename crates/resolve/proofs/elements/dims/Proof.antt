@@ -1,3 +1,4 @@
+-- The tests in the order of `dimsOf`.
 use Rattle.laws.proofs.Chain.{chain}
 use Rattle.resolve.proofs.elements.dims.Statement.{statement}
 use Rattle.resolve.proofs.elements.dims.Tie as tie

@@ -1,3 +1,4 @@
+-- Case by case as in `elementIn`.
 use borrow.Author.Needs.{needs}
 use Rattle.resolve.proofs.elements.element_of.Statement.{statement}
 use Rattle.resolve.proofs.elements.element_of.Tie as tie

@@ -1,3 +1,4 @@
+-- The size is the type's by the definition; what is required bounds the position and the end, so nothing overflows.
 use mathlib.Core.Path.{ap, _∙_}
 use Prim.Native.Nat.{ℕ, _*_}
 use native.Mathlib.Omega.{arith}

@@ -1,3 +1,4 @@
+-- The definition's tests in its order; indexes below their lengths mean a position inside the array, so nothing overflows.
 use Rattle.resolve.specs.Runs.{valuesOf, indexOf}
 use Rattle.resolve.proofs.Indexes.{position-small, position-counted, position-within, index-laws}
 use Rattle.laws.proofs.Chain.{chain}

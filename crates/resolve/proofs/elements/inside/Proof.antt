@@ -1,3 +1,4 @@
+-- The tests in the order of `insideOf`.
 use Rattle.laws.proofs.Chain.{chain}
 use Rattle.resolve.proofs.elements.inside.Statement.{statement}
 use Rattle.resolve.proofs.elements.inside.Tie as tie

@@ -1,3 +1,4 @@
+-- One, two or three indexes by the lengths that are open; an inner position is no more than the whole, since no open length is 0.
 use Rattle.resolve.specs.Runs.{valuesOf}
 use Rattle.resolve.proofs.Indexes.{row-second, row-inner, row-outer, row-laws}
 use Rattle.laws.proofs.Chain.{chain}

@@ -1,3 +1,4 @@
+-- The sum is bounded by what is required, so neither it nor the product overflows.
 use mathlib.Core.Path.{ap}
 use Prim.Native.Nat.{ℕ, _*_}
 use native.Mathlib.Omega.{arith}

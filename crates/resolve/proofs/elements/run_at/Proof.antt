@@ -1,3 +1,4 @@
+-- The run from here on completes the whole one; each element that is passed leaves fewer segments, and the count is at most the position.
 use Prim.Native.Nat.{_+_, _≤_}
 use lib.ListN.{length}
 use Rattle.resolve.specs.Paths.{left}

@@ -1,3 +1,4 @@
+-- The lookup is the definition's, and what it finds is the index of a row.
 use Prim.Native.Nat.{_<_}
 use lib.ListN.{length}
 use Rattle.resolve.proofs.Rows.{among-laws}

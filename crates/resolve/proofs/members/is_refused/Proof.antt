@@ -1,3 +1,4 @@
+-- Two tests in the definition's order.
 use Rattle.laws.proofs.Chain.{chain}
 use Rattle.resolve.proofs.members.is_refused.Statement.{statement}
 use Rattle.resolve.proofs.members.is_refused.Tie as tie

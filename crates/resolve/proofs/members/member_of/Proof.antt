@@ -1,3 +1,4 @@
+-- The definition's three conditions one by one; with all of them the move is one among the structure's own members.
 use Rattle.resolve.proofs.Rows.{member-laws}
 use borrow.Author.Needs.{needs}
 use Rattle.resolve.proofs.members.member_of.Statement.{statement}

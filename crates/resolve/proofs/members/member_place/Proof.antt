@@ -1,3 +1,4 @@
+-- A bit member is one BOOL; any other has its row's type and length, and a length of 0 opens no array.
 use Rattle.definition.specs.Resolve.{memberTarget}
 use Rattle.resolve.proofs.Rows.{member-lengths}
 use borrow.Author.Tests.{eq-eqb, ne-eqb}

@@ -1,3 +1,4 @@
+-- The structure's row names its members; past the table the row is empty, and so are they.
 use Rattle.resolve.proofs.Rows.{members-laws}
 use borrow.Author.Needs.{needs}
 use Rattle.resolve.proofs.members.members_of.Statement.{statement}

@@ -1,3 +1,4 @@
+-- The slice is what `drop` and `take` leave, by where the start and the end lie against the table's end.
 use Rattle.model.proofs.Laws.{parts}
 use borrow.Author.Needs.{needs}
 use Rattle.resolve.proofs.members.rows_of.Statement.{statement}

@@ -1,3 +1,4 @@
+-- One test, the definition's; behind it the member's place is its target.
 use Rattle.laws.proofs.Chain.{by-call}
 use mathlib.Core.Path.{ap}
 use Rattle.definition.specs.Resolve.{visibleMember, found}

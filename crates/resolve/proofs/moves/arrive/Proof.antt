@@ -1,3 +1,4 @@
+-- Case by case as in `arrived`.
 use borrow.Author.Needs.{needs}
 use Rattle.resolve.proofs.moves.arrive.Statement.{statement}
 use Rattle.resolve.proofs.moves.arrive.Tie as tie

@@ -1,3 +1,4 @@
+-- The walk from here on is the whole walk, from a place that stands in its tag; each step leaves fewer segments.
 use lib.ListN.{length}
 use Rattle.model.specs.Tables.{flagsOf}
 use Rattle.resolve.specs.Paths.{left}

@@ -1,3 +1,4 @@
+-- A run of elements is one move, a name is one, any other segment strays; a move keeps the place in its tag and leaves fewer segments.
 use Rattle.resolve.proofs.Stepping.{steps, standing-bounded, standing-start}
 use Rattle.resolve.proofs.Lefts.{name-at}
 use borrow.Author.Needs.{needs}

@@ -1,3 +1,4 @@
+-- Of an instance the tests of class, flags and ID in the order of `instanceStart`; any other segment is an error in both.
 use Rattle.resolve.proofs.Starting.{instance-laws}
 use borrow.Author.Needs.{needs}
 use Rattle.resolve.proofs.start.by_instance.Statement.{statement}

@@ -1,3 +1,4 @@
+-- A program that is found is one of at most 16, so its scope is exact; in that scope the tag is looked for as in the definition.
 use Prim.Native.Nat.{_<_}
 use native.Mathlib.Omega.{arith}
 use mathlib.Core.Path.{refl}

@@ -1,3 +1,4 @@
+-- By the first segment as in the definition; a tag that is found is a row, and what follows it decodes.
 use Rattle.resolve.proofs.Starting.{scopes}
 use Rattle.resolve.proofs.Lefts.{name-at}
 use borrow.Author.Needs.{needs}

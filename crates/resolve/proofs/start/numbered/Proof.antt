@@ -1,3 +1,4 @@
+-- The lookup is the definition's, and its two cases are those of `startAt`.
 use Rattle.resolve.proofs.Starting.{start-laws}
 use borrow.Author.Needs.{needs}
 use Rattle.resolve.proofs.start.numbered.Statement.{statement}

@@ -1,3 +1,4 @@
+-- A program's name is longer than its prefix of 8 bytes, so the rest stands in the path; the tests are the definition's.
 use native.Mathlib.Omega.{arith}
 use Prim.Native.Nat.{_+_, _≤_}
 use lib.ListN.{length}

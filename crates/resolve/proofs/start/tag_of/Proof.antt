@@ -1,3 +1,4 @@
+-- A program's name comes off in the definition's case; the tag is then looked for in the program, else in the controller's scope.
 use Rattle.resolve.proofs.Starting.{whole-paths, first-fits, first-decodes}
 use borrow.Author.Needs.{needs}
 use Rattle.resolve.proofs.start.tag_of.Statement.{statement}

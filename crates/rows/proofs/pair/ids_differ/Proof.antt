@@ -1,3 +1,4 @@
+-- Symbols of two scopes differ at once; in one scope the IDs decide.
 use Rattle.laws.proofs.Chain.{unlike}
 use Rattle.rows.proofs.pair.ids_differ.Statement.{statement}
 use Rattle.rows.proofs.pair.ids_differ.Tie as tie

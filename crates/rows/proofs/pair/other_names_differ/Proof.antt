@@ -1,3 +1,4 @@
+-- Symbols of two scopes differ at once; in one scope the names decide, each from its own store.
 use Rattle.laws.proofs.Chain.{unlike}
 use Rattle.definition.specs.Valid.{otherNamesDiffer}
 use borrow.Author.Needs.{needs}

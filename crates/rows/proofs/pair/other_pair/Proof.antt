@@ -1,3 +1,4 @@
+-- One call, on the scopes and IDs that the definition compares.
 use mathlib.Core.Path.{refl}
 use Rattle.definition.specs.Valid.{idsDiffer}
 use borrow.Author.Needs.{needs}

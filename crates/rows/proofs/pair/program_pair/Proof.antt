@@ -1,3 +1,4 @@
+-- One comparison, of the two names that the rows name.
 use mathlib.Core.Path.{refl}
 use Rattle.definition.specs.Valid.{programNamesDiffer}
 use borrow.Author.Needs.{needs}

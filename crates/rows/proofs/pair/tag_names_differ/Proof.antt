@@ -1,3 +1,4 @@
+-- Tags of two scopes differ at once; in one scope the names decide.
 use Rattle.laws.proofs.Chain.{unlike}
 use Rattle.definition.specs.Valid.{tagNamesDiffer}
 use borrow.Author.Needs.{needs}

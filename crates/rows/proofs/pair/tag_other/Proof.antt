@@ -1,3 +1,4 @@
+-- Two tests in the statement's order: names, then IDs.
 use Rattle.laws.proofs.Chain.{refusals}
 use Rattle.definition.specs.Valid.{idsDiffer}
 use Rattle.rows.specs.Judged.{tagOther}

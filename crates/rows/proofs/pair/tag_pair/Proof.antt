@@ -1,3 +1,4 @@
+-- Three tests in the statement's order: names, IDs, bytes.
 use Rattle.laws.proofs.Chain.{refusals}
 use Rattle.definition.specs.Valid.{idsDiffer}
 use Rattle.rows.specs.Judged.{tagPair}

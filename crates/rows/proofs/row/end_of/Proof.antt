@@ -1,3 +1,4 @@
+-- A product of two numbers of 32 bits and a third one added to it fit 64 bits.
 use mathlib.Core.Path.{refl}
 use Rattle.rows.proofs.Laws.{product-fits}
 use native.Mathlib.Omega.{arith}

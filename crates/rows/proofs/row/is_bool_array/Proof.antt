@@ -1,3 +1,4 @@
+-- Four tests in the statement's order; 32 times the elements fit 64 bits.
 use mathlib.Core.Path.{refl}
 use borrow.Author.Tests.{eq-eqb, ne-eqb}
 use Rattle.laws.proofs.Chain.{chain}

@@ -1,3 +1,4 @@
+-- Two tests in the statement's order.
 use Rattle.laws.proofs.Chain.{chain}
 use Rattle.rows.proofs.row.is_printable.Statement.{statement}
 use Rattle.rows.proofs.row.is_printable.Tie as tie

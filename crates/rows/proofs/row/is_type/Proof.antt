@@ -1,3 +1,4 @@
+-- One split, as in the definition: a code is atomic if it has a size, a structure is known by its index.
 use Rattle.laws.proofs.Chain.{chain}
 use Rattle.definition.specs.Valid.{isType}
 use borrow.Author.Needs.{needs}

@@ -1,3 +1,4 @@
+-- Six tests in the statement's order.
 use Rattle.laws.proofs.Chain.{refusals}
 use Rattle.rows.specs.Judged.{memberJudged}
 use borrow.Author.Needs.{needs}

@@ -1,3 +1,4 @@
+-- Two tests in the statement's order; by the first the part stands in its store, so the second can look at it.
 use Rattle.laws.proofs.Chain.{refusals}
 use native.Mathlib.Nat.{add-sub-cancel-left}
 use Rattle.rows.specs.Judged.{nameJudged}

@@ -1,3 +1,4 @@
+-- One call, on the two words that the row has of its name.
 use denote.Ref.{now}
 use mathlib.Core.Path.{_≡_, refl, _∙_, ap₂}
 use mathlib.Core.Bool.{Bool}

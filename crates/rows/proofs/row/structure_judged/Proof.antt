@@ -1,3 +1,4 @@
+-- Three tests in the statement's order; by the second the members stand in their table, which the third requires.
 use Rattle.laws.proofs.Chain.{refusals, kept-le}
 use Rattle.rows.specs.Judged.{structureJudged}
 use borrow.Author.Needs.{needs}

@@ -1,3 +1,4 @@
+-- Four tests in the statement's order.
 use Rattle.laws.proofs.Chain.{refusals}
 use Rattle.rows.specs.Judged.{structureNamed}
 use borrow.Author.Needs.{needs}

@@ -1,3 +1,4 @@
+-- One call, whose sum is the definition's end once the element size is.
 use mathlib.Core.Path.{refl}
 use borrow.Author.Needs.{needs}
 use Rattle.rows.proofs.row.tag_end.Statement.{statement}

@@ -1,3 +1,4 @@
+-- Seven tests in the statement's order.
 use Rattle.laws.proofs.Chain.{refusals}
 use Rattle.rows.specs.Judged.{tagJudged}
 use borrow.Author.Needs.{needs}

@@ -1,3 +1,4 @@
+-- Both words stay the same when widened, and then their sum does not overflow.
 use mathlib.Core.Path.{refl}
 use borrow.Author.Needs.{needs}
 use Rattle.rows.proofs.row.within.Statement.{statement}

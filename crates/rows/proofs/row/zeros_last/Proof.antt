@@ -1,3 +1,4 @@
+-- A case split on the first length and then on the second, as in the statement.
 use Rattle.laws.proofs.Chain.{chain}
 use Rattle.rows.proofs.row.zeros_last.Statement.{statement}
 use Rattle.rows.proofs.row.zeros_last.Tie as tie

@@ -1,3 +1,4 @@
+-- Two tests in the definition's order.
 use Rattle.laws.proofs.Chain.{chain, eithers}
 use Rattle.services.proofs.targets.is_read.Statement.{statement}
 use Rattle.services.proofs.targets.is_read.Tie as tie

@@ -1,3 +1,4 @@
+-- Two tests in the definition's order.
 use Rattle.laws.proofs.Chain.{eithers}
 use borrow.Author.Needs.{needs}
 use Rattle.services.proofs.targets.is_tag_service.Statement.{statement}

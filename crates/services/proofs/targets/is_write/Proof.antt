@@ -1,3 +1,4 @@
+-- Three tests in the definition's order.
 use Rattle.laws.proofs.Chain.{chain, eithers}
 use Rattle.services.proofs.targets.is_write.Statement.{statement}
 use Rattle.services.proofs.targets.is_write.Tie as tie

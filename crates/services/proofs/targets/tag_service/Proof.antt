@@ -1,3 +1,4 @@
+-- The target is the definition's, whose open lengths no service looks at; in valid tables it lies in tag memory.
 use Rattle.services.proofs.Serving.{tag-aimed, tag-turned, tag-found}
 use mathlib.Core.Path.{refl}
 use borrow.Author.Needs.{needs}

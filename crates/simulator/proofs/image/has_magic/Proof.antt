@@ -1,3 +1,4 @@
+-- The magic has 8 bytes and the image at least as many, and the loop reads only below 8.
 use Prim.Native.Nat.{_≤_, _-_}
 use borrow.Author.Needs.{needs}
 use Rattle.simulator.proofs.image.has_magic.Statement.{statement}

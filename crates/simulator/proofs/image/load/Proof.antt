@@ -1,3 +1,4 @@
+-- The image has just the bytes that its counts ask, so the rows of each table lie in it, and the stores are what is left.
 use mathlib.Core.Path.{sym}
 use lib.Seq.{length-take-le}
 use borrow.Author.Needs.{needs}

@@ -1,3 +1,4 @@
+-- The stores have just the bytes that the counts ask, so each store lies in them, and the tag memory fits its array.
 use mathlib.Core.Path.{sym}
 use lib.Seq.{length-take-le}
 use borrow.Author.Needs.{needs}

@@ -1,3 +1,4 @@
+-- Each table is an array, lent whole, and `session::open` requires nothing of it.
 use borrow.Author.Needs.{needs}
 use Rattle.simulator.proofs.pallet.serve.Statement.{statement}
 use Rattle.simulator.proofs.pallet.serve.Tie as tie

@@ -1,3 +1,4 @@
+-- A piece lies in what is left and has at most 1,024 bytes, so its text fits 3,072.
 use mathlib.Core.Path.{_≡_, sym}
 use lib.Seq.{length-take-le}
 use Prim.Native.Nat.{_≤_, _-_}

@@ -1,3 +1,4 @@
+-- Four calls that require nothing.
 use borrow.Author.Needs.{needs}
 use Rattle.simulator.proofs.reply.show.Statement.{statement}
 use Rattle.simulator.proofs.reply.show.Tie as tie

@@ -1,3 +1,4 @@
+-- Byte i takes the places from 3 * i to 3 * i + 2, and there are three for each byte.
 use Prim.Native.Nat.{_≤_, _-_}
 use mathlib.Core.Path.{_≡_}
 use lib.ListN.{length}

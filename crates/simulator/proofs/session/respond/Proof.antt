@@ -1,3 +1,4 @@
+-- A reply is no longer than max(8, limit), so it lies in the buffer.
 use mathlib.Core.Path.{sym}
 use native.Mathlib.Omega.{arith}
 use lib.Seq.{length-take-le}

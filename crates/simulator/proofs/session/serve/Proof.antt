@@ -1,3 +1,4 @@
+-- A turn keeps all lengths, so the tables stay valid for the memory; the place stays in the input, and the count of turns falls.
 use Prim.Native.Nat.{ℕ, _≤_}
 use mathlib.Core.Path.{_≡_, refl, ap, _∙_}
 use native.Mathlib.Omega.{arith}

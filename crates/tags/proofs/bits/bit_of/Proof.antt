@@ -1,3 +1,4 @@
+-- The bit's value is 2 to the k, which is never 0; the quotient's parity is the definition's bit.
 use lib.Pow.{pow-pos}
 use borrow.Author.Needs.{needs}
 use Rattle.tags.proofs.bits.bit_of.Statement.{statement}

@@ -1,3 +1,4 @@
+-- Entry k of the table is 2 to the k, at each of its eight places.
 use Rattle.laws.proofs.Table.{table}
 use Prim.Native.Nat.{ℕ, _^_}
 use borrow.Author.Needs.{needs}

@@ -1,3 +1,4 @@
+-- A bit is split off first; the tests are those of the statement, in its order.
 use Rattle.laws.proofs.Chain.{chain}
 use Rattle.tags.proofs.reads.ask_of.Statement.{statement}
 use Rattle.tags.proofs.reads.ask_of.Tie as tie

@@ -1,3 +1,4 @@
+-- In either store the contract grants n bytes from `at` on, and the cut from `at` to `at` + n is just these.
 use native.Mathlib.Omega.{arith}
 use native.Mathlib.Nat.{add-sub-cancel-left}
 use borrow.Author.Needs.{needs}

@@ -1,3 +1,4 @@
+-- One test, as in the statement.
 use Rattle.laws.proofs.Chain.{chain}
 use Rattle.tags.proofs.reads.fields_size.Statement.{statement}
 use Rattle.tags.proofs.reads.fields_size.Tie as tie

@@ -1,3 +1,4 @@
+-- One test: a type is a structure just where it is not below 0x100.
 use Rattle.laws.proofs.Chain.{chain}
 use Rattle.tags.proofs.reads.header_size.Statement.{statement}
 use Rattle.tags.proofs.reads.header_size.Tie as tie

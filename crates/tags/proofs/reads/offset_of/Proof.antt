@@ -1,3 +1,4 @@
+-- A fragmented read has six bytes of fields, so its offset is there to be read; any other read has none.
 use borrow.Author.Tests.{eq-eqb}
 use Rattle.laws.proofs.Chain.{chain}
 use mathlib.Core.Path.{_∙_}

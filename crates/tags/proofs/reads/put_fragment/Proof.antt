@@ -1,3 +1,4 @@
+-- Without an extended word the header has four bytes; type header and data, put right behind it, make up the reply.
 use native.Mathlib.Omega.{arith}
 use Rattle.cip.specs.Statuses.{statusOf}
 use Rattle.tags.proofs.Reading.{plain-start, header-length, header-few, fragment-put}

@@ -1,3 +1,4 @@
+-- The definition's refusals in its order; a granted read asks for no more elements than the target has.
 use native.Mathlib.Omega.{arith}
 use Rattle.tags.proofs.Reading.{count-there, granted-few, read-short, read-granted, read-refused}
 use borrow.Author.Needs.{needs}

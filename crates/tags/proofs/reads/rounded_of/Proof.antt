@@ -1,3 +1,4 @@
+-- One test, as in the definition, and its rounding.
 use Rattle.laws.proofs.Chain.{chain}
 use Rattle.definition.specs.Fragment.{rounded}
 use borrow.Author.Needs.{needs}

@@ -1,3 +1,4 @@
+-- The offset decides as in the definition; behind it size, status and bytes are the fragment's, which fits the room at any limit.
 use mathlib.Core.Path.{ap}
 use native.Mathlib.Omega.{arith}
 use borrow.Author.Tests.{le-leb}

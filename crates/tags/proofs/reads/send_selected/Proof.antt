@@ -1,3 +1,4 @@
+-- The target lies in memory, so its first byte and its elements are there; a bit's byte or these are what is selected.
 use native.Mathlib.Omega.{arith}
 use Rattle.tags.proofs.Reading.{bit-sent, part-sent}
 use Rattle.tags.proofs.Aiming.{aimed-first, aimed-inside}

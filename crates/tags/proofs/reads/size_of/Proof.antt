@@ -1,3 +1,4 @@
+-- One test, as in the definition: what fits is sent whole, and only a cut is rounded.
 use Rattle.laws.proofs.Chain.{chain}
 use Rattle.definition.specs.Fragment.{sizeOf}
 use borrow.Author.Needs.{needs}

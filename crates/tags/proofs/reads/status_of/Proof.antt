@@ -1,3 +1,4 @@
+-- One test, as in the definition: the status is partial just where more is due than fits.
 use mathlib.Core.Path.{ap}
 use Rattle.laws.proofs.Chain.{chain}
 use Rattle.definition.specs.Reply.{general}

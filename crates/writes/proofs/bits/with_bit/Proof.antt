@@ -1,3 +1,4 @@
+-- Zero clears the bit and any other value sets it, as in the definition; the bit's value is 2 to the k.
 use borrow.Author.Tests.{eq-eqb, ne-eqb}
 use Rattle.definition.specs.Write.{withBit}
 use borrow.Author.Needs.{needs}

@@ -1,3 +1,4 @@
+-- The definition's refusals in its order, each with the memory as it was; what is left puts in one byte.
 use mathlib.Core.Path.{refl}
 use Rattle.laws.proofs.Chain.{chain}
 use Rattle.definition.specs.Write.{writeBit}

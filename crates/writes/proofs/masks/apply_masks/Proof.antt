@@ -1,3 +1,4 @@
+-- After j turns the first j bytes are masked and the rest is as it was, so the next byte is masked from its old value.
 use mathlib.Core.Path.{_≡_, refl}
 use Prim.Native.Nat.{_-_, _≤_}
 use lib.ListN.{length, length-set}

@@ -1,3 +1,4 @@
+-- The definition's refusals in its order; masks that the target takes have its type's size, and so many bytes are in memory.
 use Rattle.writes.proofs.Masking.{no-size, masks-short, masks-long, masks-wrong, masks-fit, masks-put}
 use borrow.Author.Needs.{needs}
 use Rattle.writes.proofs.masks.masked_write.Statement.{statement}

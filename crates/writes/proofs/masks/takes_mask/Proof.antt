@@ -1,3 +1,4 @@
+-- Three tests in the definition's order: no bit, a type that has bits, its size.
 use borrow.Author.Tests.{eq-eqb}
 use Rattle.laws.proofs.Chain.{chain}
 use Rattle.definition.specs.Masked.{takesMask}

@@ -1,3 +1,4 @@
+-- Each field stands where the definition has it; all fields have at least four bytes, so those of a handle can be read always.
 use native.Mathlib.Omega.{arith}
 use Rattle.definition.specs.Write.{fieldsOf}
 use Rattle.writes.proofs.Storing.{some-fields}

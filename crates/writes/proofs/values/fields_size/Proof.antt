@@ -1,3 +1,4 @@
+-- The definition's sum; type and offset have at most four bytes each, so it cannot overflow.
 use native.Mathlib.Omega.{arith}
 use Rattle.writes.proofs.Storing.{type-few, offset-few}
 use borrow.Author.Needs.{needs}

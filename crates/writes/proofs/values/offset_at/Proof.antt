@@ -1,3 +1,4 @@
+-- Only a fragmented write brings an offset, and then its four bytes are there by the contract.
 use Rattle.laws.proofs.Chain.{chain}
 use mathlib.Core.Path.{_∙_}
 use borrow.Author.Tests.{eq-eqb}

@@ -1,3 +1,4 @@
+-- One test, as in the definition.
 use Rattle.laws.proofs.Chain.{chain}
 use Rattle.writes.proofs.values.offset_size.Statement.{statement}
 use Rattle.writes.proofs.values.offset_size.Tie as tie

@@ -1,3 +1,4 @@
+-- The tests in the statement's order: an atomic type by its code, a structure by the structure code and then its handle.
 use borrow.Author.Tests.{le-leb, eq-eqb}
 use Rattle.laws.proofs.Chain.{chain}
 use borrow.Author.Needs.{needs}

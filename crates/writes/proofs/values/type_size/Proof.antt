@@ -1,3 +1,4 @@
+-- One test, as in the definition, of the code that the first two bytes are.
 use mathlib.Core.Path.{_∙_}
 use Rattle.laws.proofs.Chain.{chain, eq-by, ne-by}
 use borrow.Author.Needs.{needs}

@@ -1,3 +1,4 @@
+-- The definition's refusals in its order; the offset is below the total, so what it leaves bounds the value as the sum does.
 use mathlib.Core.Path.{refl}
 use Prim.Native.Nat.{_+_, _<_, _≤_}
 use lib.ListN.{length}

@@ -1,3 +1,4 @@
+-- The definition's refusals in its order; no more elements than the target has lie in memory, so the total does.
 use mathlib.Core.Path.{refl}
 use native.Mathlib.Omega.{arith}
 use Rattle.laws.proofs.Chain.{chain, pick-yes-by, pick-no-by}
