@@ -128,7 +128,8 @@ record State (κ : Lft) (s : RefT (List ℕ)) : Type 0 where
   count : ℕ
   going : Going (now s) (reader .at) count
 
-module _ {M : Type 1} (𝓤 : URA M) (H : Heap 𝓤) (A : Atoms 𝓤) (W : Given 𝓤 H A) (mem : Memory → SProp 𝓤) (run : Routine → Fun 𝓤) (κ : Lft) (q : Share) (s : RefT (List ℕ)) (path-is : Is (ShrSlice (named 0) κ u8) s (sliceVal (s .ptr) (length (s .now)) ∷ [])) where
+module _ {M : Type 1} (𝓤 : URA M) (H : Heap 𝓤) (A : Atoms 𝓤) (W : Given 𝓤 H A) (mem : Memory → SProp 𝓤) (run : Routine → Fun 𝓤) (κ : Lft) (q : Share)
+    (s : RefT (List ℕ)) (path-is : Is (ShrSlice (named 0) κ u8) s (sliceVal (s .ptr) (length (s .now)) ∷ [])) where
   -- the machine value that the path has
   abbrev v : Val
   v = sliceVal (s .ptr) (length (s .now))
@@ -168,7 +169,8 @@ module _ {M : Type 1} (𝓤 : URA M) (H : Heap 𝓤) (A : Atoms 𝓤) (W : Given
   exits : (c : Check) → Is K.the-row c (K′.lowered c ∷ []) → c ≡ checkOf (now s) → ent 𝓤 (⋆ 𝓤 H A (Token ∷ ‵ Own ∷ [])) (Post (K′.lowered c))
   exits c is e =
       qed W (Token ∷ ‵ Own ∷ []) ∵
-      suffices ! _ (ends-at 𝓤 H A count.ended stayed (count.clauses 𝓤 H A mem run) W (((κ, tt), (q, tt), tt, (s, tt), vals), tt) (K′.lowered c) c (tt, tt) (tt, tt)) $ says ! e $
+      suffices ! _ (ends-at 𝓤 H A count.ended stayed (count.clauses 𝓤 H A mem run) W (((κ, tt), (q, tt), tt, (s, tt), vals), tt) (K′.lowered c) c (tt, tt)
+      (tt, tt)) $ says ! e $
       frame ! $ nothing ! $ move ! (1 ∷ 0 ∷ []) $ fjoin ! $ frame ! $ owned ! K.the-row (Is K.the-row) (EL.makes K.the-type K′.the-plain 𝓤 H A) c _ is $ done !
 
   made : (k : ℕ) → k < 2 ^ 64 → Is K.the-row (Segments k) (K′.lowered (Segments k) ∷ [])
@@ -192,7 +194,15 @@ module _ {M : Type 1} (𝓤 : URA M) (H : Heap 𝓤) (A : Atoms 𝓤) (W : Given
   Nearer-wf = InvImage·wf (λ (x : St). length (now s) - x .reader .at) (Nat·lt-wfRel .wf)
 
   abbrev start : (r : Reader) (u : Val) → Is (B (κ, tt)) r (u ∷ []) → NewSaid s r → St
-  start r u is e = record { reader = r; mach = u; is = is; same = e .0; count = 0; going = subst (λ (n : ℕ). Going (now s) n 0) (sym (e .1)) (going-start (now s)) }
+  start r u is e = record {
+    reader = r;
+    mach = u;
+    is = is;
+    same = e .0;
+    count = 0;
+    going =
+        subst (λ (n : ℕ). Going (now s) n 0) (sym (e .1)) (going-start (now s));
+  }
 
   -- what is said of the reader's own path, said of the path
   of-path : (x : St) (P : List ℕ → Type 0) → P (now (x .reader .path)) → P (now s)
@@ -204,7 +214,8 @@ module _ {M : Type 1} (𝓤 : URA M) (H : Heap 𝓤) (A : Atoms 𝓤) (W : Given
   count-small : (x : St) → x .count < 2 ^ 64
   count-small x = let b = x .going .below in let f = at-fits 𝓤 H A W κ (x .reader) (x .mach) (x .is) in omega (arith, b, f)
 
-  abbrev further : (x : St) (t : Segment) (n : ℕ) → Decoded (now s) (x .reader .at) t → n ≡ nextAfter t → (n ≡ 0 → ⊥) → (p : Reader) (u : Val) → Is (B (κ, tt)) p (u ∷ []) → MovedSaid (x .reader) n p → St
+  abbrev further : (x : St) (t : Segment) (n : ℕ) → Decoded (now s) (x .reader .at) t → n ≡ nextAfter t → (n ≡ 0 → ⊥) → (p : Reader) (u : Val)
+      → Is (B (κ, tt)) p (u ∷ []) → MovedSaid (x .reader) n p → St
   further x t n d e z p u is m = record {
     reader = p;
     mach = u;
@@ -214,152 +225,179 @@ module _ {M : Type 1} (𝓤 : URA M) (H : Heap 𝓤) (A : Atoms 𝓤) (W : Given
     going = subst (λ (k : ℕ). Going (now s) k (x .count + 1)) (sym (m .1)) (going-next (now s) (x .reader .at) (x .count) (x .going) t n d e z);
   }
 
-  nearer : (x : St) (t : Segment) (n : ℕ) (d : Decoded (now s) (x .reader .at) t) (e : n ≡ nextAfter t) (z : n ≡ 0 → ⊥) (h : x .reader .at < length (now s)) (p : Reader) (u : Val) (is : Is (B (κ, tt)) p (u ∷ [])) (m : MovedSaid (x .reader) n p)
+  nearer : (x : St) (t : Segment) (n : ℕ) (d : Decoded (now s) (x .reader .at) t) (e : n ≡ nextAfter t) (z : n ≡ 0 → ⊥)
+      (h : x .reader .at < length (now s)) (p : Reader) (u : Val) (is : Is (B (κ, tt)) p (u ∷ [])) (m : MovedSaid (x .reader) n p)
       → Nearer (further x t n d e z p u is m) x
-  nearer x t n d e z h p u is m = subst (λ (k : ℕ). length (now s) - k < length (now s) - x .reader .at) (sym (m .1)) (going-less (now s) (x .reader .at) (x .count) (x .going) t n d e h z)
+  nearer x t n d e z h p u is m = subst (λ (k : ℕ). length (now s) - k < length (now s) - x .reader .at) (sym (m .1))
+      (going-less (now s) (x .reader .at) (x .count) (x .going) t n d e h z)
 
   module _ (𝓣 : Tables 𝓤 H) (l₀ l₁ l₂ l₃ l₄ l₅ l₆ l₇ l₈ l₉ l₁₀ : ℕ)
-      (known-is-empty : Triple 𝓤 (𝓣 .C is-empty-def.name) (IsEmpty 𝓤 H A mem run)) (known-segment : Triple 𝓤 (𝓣 .C segment-def.name) (Seg 𝓤 H A mem run)) (known-next-of : Triple 𝓤 (𝓣 .C next-of-def.name) (NextOf 𝓤 H A mem run)) (known-moved : Triple 𝓤 (𝓣 .C moved-def.name) (Moved 𝓤 H A mem run)) where
-    abbrev C : Calls 𝓤 H
-    C = 𝓣 .C
+      (known-is-empty : Triple 𝓤 (𝓣 .C is-empty-def.name) (IsEmpty 𝓤 H A mem run)) (known-segment : Triple 𝓤 (𝓣 .C segment-def.name) (Seg 𝓤 H A mem run))
+      (known-next-of : Triple 𝓤 (𝓣 .C next-of-def.name) (NextOf 𝓤 H A mem run)) (known-moved : Triple 𝓤 (𝓣 .C moved-def.name) (Moved 𝓤 H A mem run))
+    where
+      abbrev C : Calls 𝓤 H
+      C = 𝓣 .C
 
-    abbrev Λ : Loops 𝓤 H
-    Λ = 𝓣 .Λ
+      abbrev Λ : Loops 𝓤 H
+      Λ = 𝓣 .Λ
 
-    fm : FmC 𝓤 H (W .laws) C
-    fm = fmOf 𝓤 H (W .laws) 𝓣
+      fm : FmC 𝓤 H (W .laws) C
+      fm = fmOf 𝓤 H (W .laws) 𝓣
 
-    -- the locals' types: the result, the path, the reader, the count, `next`, and those that a turn uses for itself
-    abbrev record-ty : Ty
-    record-ty = T′.mir erased
+      -- the locals' types: the result, the path, the reader, the count, `next`, and those that a turn uses for itself
+      abbrev record-ty : Ty
+      record-ty = T′.mir erased
 
-    abbrev path-ty : Ty
-    path-ty = sliceTy (tyRef (named 0) imm (tyInt w8))
+      abbrev path-ty : Ty
+      path-ty = sliceTy (tyRef (named 0) imm (tyInt w8))
 
-    abbrev word : Ty
-    word = tyInt w64
+      abbrev word : Ty
+      word = tyInt w64
 
-    abbrev En : Env 𝓤 H
-    En = (K′.mir, l₀) ∷ (path-ty, l₁) ∷ (record-ty, l₂) ∷ (word, l₃) ∷ (word, l₄) ∷ (tyBool, l₅) ∷ (record-ty, l₆) ∷ (tyBool, l₇) ∷ (S′.mir, l₈) ∷ (record-ty, l₉) ∷ (record-ty, l₁₀) ∷ []
+      abbrev En : Env 𝓤 H
+      En = (K′.mir, l₀) ∷ (path-ty, l₁) ∷ (record-ty, l₂) ∷ (word, l₃) ∷ (word, l₄) ∷ (tyBool, l₅) ∷ (record-ty, l₆) ∷ (tyBool, l₇) ∷ (S′.mir, l₈) ∷
+          (record-ty, l₉) ∷ (record-ty, l₁₀) ∷ []
 
-    abbrev room : Ty → ℕ → Item 𝓤
-    room τ l = ‵ (froom τ l 0)
+      abbrev room : Ty → ℕ → Item 𝓤
+      room τ l = ‵ (froom τ l 0)
 
-    abbrev has : Ty → ℕ → Val → Item 𝓤
-    has τ l y = ‵ (fat fullShare τ l 0 y)
+      abbrev has : Ty → ℕ → Val → Item 𝓤
+      has τ l y = ‵ (fat fullShare τ l 0 y)
 
-    -- the context at any place between two calls: what the reader owns, the token, what the path owns, and the locals, _10 at 3 down to _0 at 23
-    abbrev Locals : Fml → (i₁₀ i₉ i₈ i₇ i₆ i₅ i₄ i₃ i₂ i₁ i₀ : Item 𝓤) → List (Item 𝓤)
-    Locals O i₁₀ i₉ i₈ i₇ i₆ i₅ i₄ i₃ i₂ i₁ i₀ =
-        ‵ O ∷ Token ∷ ‵ Own
-        ∷ i₁₀ ∷ ‵ (fdies record-ty l₁₀) ∷ i₉ ∷ ‵ (fdies record-ty l₉) ∷ i₈ ∷ ‵ (fdies S′.mir l₈)
-        ∷ i₇ ∷ ‵ (fdies tyBool l₇) ∷ i₆ ∷ ‵ (fdies record-ty l₆) ∷ i₅ ∷ ‵ (fdies tyBool l₅)
-        ∷ i₄ ∷ ‵ (fdies word l₄) ∷ i₃ ∷ ‵ (fdies word l₃) ∷ i₂ ∷ ‵ (fdies record-ty l₂)
-        ∷ i₁ ∷ ‵ (fdies path-ty l₁) ∷ i₀ ∷ ‵ (fdies K′.mir l₀) ∷ []
+      -- the context at any place between two calls: what the reader owns, the token, what the path owns, and the locals, _10 at 3 down to _0 at 23
+      abbrev Locals : Fml → (i₁₀ i₉ i₈ i₇ i₆ i₅ i₄ i₃ i₂ i₁ i₀ : Item 𝓤) → List (Item 𝓤)
+      Locals O i₁₀ i₉ i₈ i₇ i₆ i₅ i₄ i₃ i₂ i₁ i₀ =
+          ‵ O ∷ Token ∷ ‵ Own
+          ∷ i₁₀ ∷ ‵ (fdies record-ty l₁₀) ∷ i₉ ∷ ‵ (fdies record-ty l₉) ∷ i₈ ∷ ‵ (fdies S′.mir l₈)
+          ∷ i₇ ∷ ‵ (fdies tyBool l₇) ∷ i₆ ∷ ‵ (fdies record-ty l₆) ∷ i₅ ∷ ‵ (fdies tyBool l₅)
+          ∷ i₄ ∷ ‵ (fdies word l₄) ∷ i₃ ∷ ‵ (fdies word l₃) ∷ i₂ ∷ ‵ (fdies record-ty l₂)
+          ∷ i₁ ∷ ‵ (fdies path-ty l₁) ∷ i₀ ∷ ‵ (fdies K′.mir l₀) ∷ []
 
-    -- the loop's invariant
-    abbrev Turn : St → List (Item 𝓤)
-    Turn x =
-        Locals (B (κ, tt) .own (x .reader) (x .mach ∷ []))
-        (room record-ty l₁₀) (room record-ty l₉) (room S′.mir l₈) (room tyBool l₇) (room record-ty l₆) (room tyBool l₅) (room word l₄)
-        (has word l₃ (vint w64 (x .count))) (has record-ty l₂ (x .mach)) (has path-ty l₁ v) (room K′.mir l₀)
+      -- the loop's invariant
+      abbrev Turn : St → List (Item 𝓤)
+      Turn x =
+          Locals (B (κ, tt) .own (x .reader) (x .mach ∷ []))
+          (room record-ty l₁₀) (room record-ty l₉) (room S′.mir l₈) (room tyBool l₇) (room record-ty l₆) (room tyBool l₅) (room word l₄)
+          (has word l₃ (vint w64 (x .count))) (has record-ty l₂ (x .mach)) (has path-ty l₁ v) (room K′.mir l₀)
 
-    -- a turn's postcondition: it ends nearer to the path's end, or the loop is left and the rest of the body runs
-    abbrev Turned : St → Out → SProp 𝓤
-    Turned x = afterTurn 𝓤 H (Below 𝓤 H A Nearer Turn x) (afterBlock 𝓤 H (afterSeq 𝓤 H (Wp 𝓤 H C Λ En body.t-4 (atReturn 𝓤 H En Post)) (atReturn 𝓤 H En Post)))
+      -- a turn's postcondition: it ends nearer to the path's end, or the loop is left and the rest of the body runs
+      abbrev Turned : St → Out → SProp 𝓤
+      Turned x = afterTurn 𝓤 H (Below 𝓤 H A Nearer Turn x) (afterBlock 𝓤 H
+          (afterSeq 𝓤 H (Wp 𝓤 H C Λ En body.t-4 (atReturn 𝓤 H En Post)) (atReturn 𝓤 H En Post)))
 
-    -- the function returns c, with its locals forgotten
-    leaves : (O : Fml) (c : Check) → Is K.the-row c (K′.lowered c ∷ []) → c ≡ checkOf (now s)
-        → Sq W (Locals O (room record-ty l₁₀) (room record-ty l₉) (room S′.mir l₈) (room tyBool l₇) (room record-ty l₆) (room tyBool l₅) (room word l₄) (room word l₃) (room record-ty l₂) (room path-ty l₁) (room K′.mir l₀)) (frees En (prop (Post (K′.lowered c))))
-    leaves O c is e =
-        move ! (23 ∷ 24 ∷ []) $ free1 ! $ move ! (21 ∷ 22 ∷ []) $ free1 ! $ move ! (19 ∷ 20 ∷ []) $ free1 ! $ move ! (17 ∷ 18 ∷ []) $ free1 ! $ move ! (15 ∷ 16 ∷ []) $ free1 ! $ move ! (13 ∷ 14 ∷ []) $ free1 ! $
-        move ! (11 ∷ 12 ∷ []) $ free1 ! $ move ! (9 ∷ 10 ∷ []) $ free1 ! $ move ! (7 ∷ 8 ∷ []) $ free1 ! $ move ! (5 ∷ 6 ∷ []) $ free1 ! $ move ! (3 ∷ 4 ∷ []) $ free1 ! $ free0 ! $
-        keep ! (1 ∷ 2 ∷ []) $ by ! (exits c is e)
+      -- the function returns c, with its locals forgotten
+      leaves : (O : Fml) (c : Check) → Is K.the-row c (K′.lowered c ∷ []) → c ≡ checkOf (now s)
+          → Sq W (Locals O (room record-ty l₁₀) (room record-ty l₉) (room S′.mir l₈) (room tyBool l₇) (room record-ty l₆) (room tyBool l₅) (room word l₄)
+          (room word l₃) (room record-ty l₂) (room path-ty l₁) (room K′.mir l₀)) (frees En (prop (Post (K′.lowered c))))
+      leaves O c is e =
+          move ! (23 ∷ 24 ∷ []) $ free1 ! $ move ! (21 ∷ 22 ∷ []) $ free1 ! $ move ! (19 ∷ 20 ∷ []) $ free1 ! $ move ! (17 ∷ 18 ∷ []) $ free1 ! $
+          move ! (15 ∷ 16 ∷ []) $ free1 ! $ move ! (13 ∷ 14 ∷ []) $ free1 ! $
+          move ! (11 ∷ 12 ∷ []) $ free1 ! $ move ! (9 ∷ 10 ∷ []) $ free1 ! $ move ! (7 ∷ 8 ∷ []) $ free1 ! $ move ! (5 ∷ 6 ∷ []) $ free1 ! $
+          move ! (3 ∷ 4 ∷ []) $ free1 ! $ free0 ! $
+          keep ! (1 ∷ 2 ∷ []) $ by ! (exits c is e)
 
-    module _ (x : St) where
-      abbrev d : Reader
-      d = x .reader
+      module _ (x : St) where
+        abbrev d : Reader
+        d = x .reader
 
-      abbrev u : Val
-      u = x .mach
+        abbrev u : Val
+        u = x .mach
 
-      abbrev O : Fml
-      O = B (κ, tt) .own d (u ∷ [])
+        abbrev O : Fml
+        O = B (κ, tt) .own d (u ∷ [])
 
-      -- the turn behind the loop's test: b is what `is_empty` answered
-      abbrev Inside : Bool → List (Item 𝓤)
-      Inside b =
-          Locals O
-          (room record-ty l₁₀) (room record-ty l₉) (room S′.mir l₈) (has tyBool l₇ (vbool (not b))) (has record-ty l₆ u) (has tyBool l₅ (vbool b)) (room word l₄)
-          (has word l₃ (vint w64 (x .count))) (has record-ty l₂ u) (has path-ty l₁ v) (room K′.mir l₀)
+        -- the turn behind the loop's test: b is what `is_empty` answered
+        abbrev Inside : Bool → List (Item 𝓤)
+        Inside b =
+            Locals O
+            (room record-ty l₁₀) (room record-ty l₉) (room S′.mir l₈) (has tyBool l₇ (vbool (not b))) (has record-ty l₆ u) (has tyBool l₅ (vbool b))
+            (room word l₄)
+            (has word l₃ (vint w64 (x .count))) (has record-ty l₂ u) (has path-ty l₁ v) (room K′.mir l₀)
 
-      inside : (b : Bool) → d .at < length (now s) → Sq W (Inside b) (runs C Λ En behind-test (anyQ (Turned x)))
-      unfolding afterTurn
-      inside b h =
-          -- `segment`
-          assigns ! (of-opd ! (load ! (from ! (stop !)) (look ! 19 refl))) (from ! (stop !)) (init ! 5 refl (typed-reader 𝓤 H A W κ d u (x .is))) $
-          use1 W (‵ O ⊛ ‵ O) (reader-twice 𝓤 H A W κ d u) $ split ! $ move ! (0 ∷ 2 ∷ []) $
-          use2 W (raw (Seg 𝓤 H A mem run .pre (to-segment 𝓤 H A W κ mem run q d u))) (goes-segment 𝓤 H A W κ mem run q d u) $
-          calls-at ! fm (Seg 𝓤 H A mem run) known-segment (to-segment 𝓤 H A W κ mem run q d u) (and-then ! (load ! (from ! (stop !)) (look ! 5 refl)) (no-more !)) (λ w.
-          segment-told 𝓤 H A W κ mem run q d u ! tt w (λ t decoded is.
-          -- [the segment; the token; what the record owns; what the path owns; room for _10; …; room for _8, at 8; …]
-          land ! (from ! (stop !)) (init ! 8 refl (typed-segment 𝓤 H A W t w is)) $
-          -- `next_of`, which takes the segment
-          use1 W (raw (NextOf 𝓤 H A mem run .pre (to-next-of 𝓤 H A W mem run t w))) (goes-next-of 𝓤 H A W mem run t w) $
-          calls-at ! fm (NextOf 𝓤 H A mem run) known-next-of (to-next-of 𝓤 H A W mem run t w) (and-then ! (load ! (from ! (stop !)) (look ! 8 refl)) (no-more !)) (λ w′.
-          next-of-told 𝓤 H A W mem run t w ! tt w′ (λ n after is-n.
-          -- [the number; nothing; the token; what the record owns; what the path owns; room for _10; …; room for _4, at 17; …]
-          land ! (from ! (stop !)) (init ! 17 refl (uint-lawful 𝓤 H A W w64 .typed n _ is-n .0)) $ rewrite ! 17 (λ (y : Val). ‵ (fat fullShare word l₄ 0 y)) (ap only (is-n .0)) refl $ drop ! $ drop ! $ move ! (1 ∷ 0 ∷ []) $
-          assigns ! (bin ! (load ! (from ! (stop !)) (look ! 15 refl)) (lit ! tt) tt) (from ! (stop !)) (store ! 13 refl (tt, tt)) $
-          unless ! (load ! (from ! (stop !)) (look ! 13 refl))
-          (λ zero.
-          -- the segment is invalid: so is the path
-          assigns ! (agg ! (and-then ! (lit ! tt) (no-more !))) (from ! (stop !)) (init ! 23 refl (typed-check Bad made-bad)) $
-          returns-within ! Post refl (look ! 23 refl) $ forget ! 5 refl $ forget ! 7 refl $ forget ! 9 refl $ forget ! 11 refl $ forget ! 13 refl $ forget ! 15 refl $ forget ! 17 refl $ forget ! 19 refl $ forget ! 21 refl $ forget ! 23 refl $
-          leaves O Bad made-bad (going-bad (now s) (d .at) (x .count) (x .going) t n (of-path x (λ p. Decoded p (d .at) t) decoded) after h (eqb→eq n 0 zero)))
-          (λ more.
-          -- one segment more, and the reader goes behind it
-          assigns ! (bin ! (load ! (from ! (stop !)) (look ! 17 refl)) (lit ! tt) (record { fits = count-fits x h })) (from ! (stop !)) (store ! 17 refl (tt, record { fits = count-fits x h })) $
-          assigns ! (of-opd ! (load ! (from ! (stop !)) (look ! 19 refl))) (from ! (stop !)) (init ! 3 refl (typed-reader 𝓤 H A W κ d u (x .is))) $
-          use2 W (raw (Moved 𝓤 H A mem run .pre (to-moved 𝓤 H A W κ mem run q d u n))) (goes-moved 𝓤 H A W κ mem run q d u n (is-n .1)) $
-          calls-at-last ! fm (Moved 𝓤 H A mem run) known-moved (to-moved 𝓤 H A W κ mem run q d u n) (and-then ! (load ! (from ! (stop !)) (look ! 2 refl)) (and-then ! (load ! (from ! (stop !)) (look ! 14 refl)) (no-more !))) (λ u′.
-          moved-told 𝓤 H A W κ mem run q d u n ! tt u′ (λ p stands is-p.
-          -- [what the new record owns; the token; what the path owns; _10; …; _2, at 19; …]
-          land-last ! (from ! (stop !)) (store ! 19 refl (typed-reader 𝓤 H A W κ p u′ is-p)) $ forget ! 3 refl $ forget ! 5 refl $ forget ! 7 refl $ forget ! 9 refl $ forget ! 11 refl $ forget ! 13 refl $ forget ! 15 refl $
-          again ! Nearer Turn x (further x t n (of-path x (λ y. Decoded y (d .at) t) decoded) after (nonzero n more) p u′ is-p stands) (nearer x t n (of-path x (λ y. Decoded y (d .at) t) decoded) after (nonzero n more) h p u′ is-p stands))))))))
+        inside : (b : Bool) → d .at < length (now s) → Sq W (Inside b) (runs C Λ En behind-test (anyQ (Turned x)))
+        unfolding afterTurn
+        inside b h =
+            -- `segment`
+            assigns ! (of-opd ! (load ! (from ! (stop !)) (look ! 19 refl))) (from ! (stop !)) (init ! 5 refl (typed-reader 𝓤 H A W κ d u (x .is))) $
+            use1 W (‵ O ⊛ ‵ O) (reader-twice 𝓤 H A W κ d u) $ split ! $ move ! (0 ∷ 2 ∷ []) $
+            use2 W (raw (Seg 𝓤 H A mem run .pre (to-segment 𝓤 H A W κ mem run q d u))) (goes-segment 𝓤 H A W κ mem run q d u) $
+            calls-at ! fm (Seg 𝓤 H A mem run) known-segment (to-segment 𝓤 H A W κ mem run q d u)
+            (and-then ! (load ! (from ! (stop !)) (look ! 5 refl)) (no-more !)) (λ w.
+            segment-told 𝓤 H A W κ mem run q d u ! tt w (λ t decoded is.
+            -- [the segment; the token; what the record owns; what the path owns; room for _10; …; room for _8, at 8; …]
+            land ! (from ! (stop !)) (init ! 8 refl (typed-segment 𝓤 H A W t w is)) $
+            -- `next_of`, which takes the segment
+            use1 W (raw (NextOf 𝓤 H A mem run .pre (to-next-of 𝓤 H A W mem run t w))) (goes-next-of 𝓤 H A W mem run t w) $
+            calls-at ! fm (NextOf 𝓤 H A mem run) known-next-of (to-next-of 𝓤 H A W mem run t w)
+            (and-then ! (load ! (from ! (stop !)) (look ! 8 refl)) (no-more !)) (λ w′.
+            next-of-told 𝓤 H A W mem run t w ! tt w′ (λ n after is-n.
+            -- [the number; nothing; the token; what the record owns; what the path owns; room for _10; …; room for _4, at 17; …]
+            land ! (from ! (stop !)) (init ! 17 refl (uint-lawful 𝓤 H A W w64 .typed n _ is-n .0)) $
+            rewrite ! 17 (λ (y : Val). ‵ (fat fullShare word l₄ 0 y)) (ap only (is-n .0)) refl $ drop ! $ drop ! $ move ! (1 ∷ 0 ∷ []) $
+            assigns ! (bin ! (load ! (from ! (stop !)) (look ! 15 refl)) (lit ! tt) tt) (from ! (stop !)) (store ! 13 refl (tt, tt)) $
+            unless ! (load ! (from ! (stop !)) (look ! 13 refl))
+            (λ zero.
+            -- the segment is invalid: so is the path
+            assigns ! (agg ! (and-then ! (lit ! tt) (no-more !))) (from ! (stop !)) (init ! 23 refl (typed-check Bad made-bad)) $
+            returns-within ! Post refl (look ! 23 refl) $ forget ! 5 refl $ forget ! 7 refl $ forget ! 9 refl $ forget ! 11 refl $ forget ! 13 refl $
+            forget ! 15 refl $ forget ! 17 refl $ forget ! 19 refl $ forget ! 21 refl $ forget ! 23 refl $
+            leaves O Bad made-bad (going-bad (now s) (d .at) (x .count) (x .going) t n (of-path x (λ p. Decoded p (d .at) t) decoded) after
+            h (eqb→eq n 0 zero)))
+            (λ more.
+            -- one segment more, and the reader goes behind it
+            assigns ! (bin ! (load ! (from ! (stop !)) (look ! 17 refl)) (lit ! tt) (record { fits = count-fits x h })) (from ! (stop !))
+            (store ! 17 refl (tt, record { fits = count-fits x h })) $
+            assigns ! (of-opd ! (load ! (from ! (stop !)) (look ! 19 refl))) (from ! (stop !)) (init ! 3 refl (typed-reader 𝓤 H A W κ d u (x .is))) $
+            use2 W (raw (Moved 𝓤 H A mem run .pre (to-moved 𝓤 H A W κ mem run q d u n))) (goes-moved 𝓤 H A W κ mem run q d u n (is-n .1)) $
+            calls-at-last ! fm (Moved 𝓤 H A mem run) known-moved (to-moved 𝓤 H A W κ mem run q d u n)
+            (and-then ! (load ! (from ! (stop !)) (look ! 2 refl)) (and-then ! (load ! (from ! (stop !)) (look ! 14 refl)) (no-more !))) (λ u′.
+            moved-told 𝓤 H A W κ mem run q d u n ! tt u′ (λ p stands is-p.
+            -- [what the new record owns; the token; what the path owns; _10; …; _2, at 19; …]
+            land-last ! (from ! (stop !)) (store ! 19 refl (typed-reader 𝓤 H A W κ p u′ is-p)) $ forget ! 3 refl $ forget ! 5 refl $ forget ! 7 refl $
+            forget ! 9 refl $ forget ! 11 refl $ forget ! 13 refl $ forget ! 15 refl $
+            again ! Nearer Turn x (further x t n (of-path x (λ y. Decoded y (d .at) t) decoded) after (nonzero n more) p u′ is-p stands)
+            (nearer x t n (of-path x (λ y. Decoded y (d .at) t) decoded) after (nonzero n more) h p u′ is-p stands))))))))
 
-      turns : Sq W (Turn x) (runs C Λ En body.turn-1 (anyQ (Turned x)))
-      unfolding afterTurn
-      turns =
-          -- `is_empty`: the record is Copy, so what it owns is had twice, once for the call
-          assigns ! (of-opd ! (load ! (from ! (stop !)) (look ! 19 refl))) (from ! (stop !)) (init ! 11 refl (typed-reader 𝓤 H A W κ d u (x .is))) $
-          use1 W (‵ O ⊛ ‵ O) (reader-twice 𝓤 H A W κ d u) $ split ! $ move ! (0 ∷ 2 ∷ []) $
-          use2 W (raw (IsEmpty 𝓤 H A mem run .pre (to-is-empty d u))) (goes-is-empty d u) $
-          calls-at ! fm (IsEmpty 𝓤 H A mem run) known-is-empty (to-is-empty d u) (and-then ! (load ! (from ! (stop !)) (look ! 11 refl)) (no-more !)) (λ w.
-          thin-told bool tyBool is-empty-def.name Empty 𝓤 H A W κ q d u ! tt w (λ b e is.
-          -- [its answer; the token; what the record owns; what the path owns; room for _10; …; room for _5, at 14; …]
-          land ! (from ! (stop !)) (init ! 14 refl (bool-lawful 𝓤 H A W .typed b _ is .0)) $ rewrite ! 14 (λ (y : Val). ‵ (fat fullShare tyBool l₅ 0 y)) (ap only is) refl $ drop ! $ move ! (1 ∷ 0 ∷ []) $
-          assigns ! (un ! (load ! (from ! (stop !)) (look ! 13 refl)) tt) (from ! (stop !)) (init ! 9 refl (tt, tt)) $
-          tests ! (load ! (from ! (stop !)) (look ! 9 refl))
-          (λ goes-on. inside b (within (now s) (d .at) b (of-path x (λ p. Empty p (d .at) b) e) goes-on))
-          (λ at-end. exec ! C Λ En body.t-4 (atRet En Post) $
-          -- the loop is left: the count is the result
-          assigns ! (agg ! (and-then ! (lit ! tt) (and-then ! (load ! (from ! (stop !)) (look ! 17 refl)) (no-more !)))) (from ! (stop !)) (init ! 23 refl (typed-check (Segments (x .count)) (made (x .count) (count-small x)))) $
-          returns ! (look ! 23 refl) $ forget ! 9 refl $ forget ! 11 refl $ forget ! 13 refl $ forget ! 17 refl $ forget ! 19 refl $ forget ! 21 refl $ forget ! 23 refl $
-          leaves O (Segments (x .count)) (made (x .count) (count-small x)) (going-end (now s) (d .at) (x .count) (x .going) (over (now s) (d .at) b (of-path x (λ p. Empty p (d .at) b) e) at-end)))))
+        turns : Sq W (Turn x) (runs C Λ En body.turn-1 (anyQ (Turned x)))
+        unfolding afterTurn
+        turns =
+            -- `is_empty`: the record is Copy, so what it owns is had twice, once for the call
+            assigns ! (of-opd ! (load ! (from ! (stop !)) (look ! 19 refl))) (from ! (stop !)) (init ! 11 refl (typed-reader 𝓤 H A W κ d u (x .is))) $
+            use1 W (‵ O ⊛ ‵ O) (reader-twice 𝓤 H A W κ d u) $ split ! $ move ! (0 ∷ 2 ∷ []) $
+            use2 W (raw (IsEmpty 𝓤 H A mem run .pre (to-is-empty d u))) (goes-is-empty d u) $
+            calls-at ! fm (IsEmpty 𝓤 H A mem run) known-is-empty (to-is-empty d u) (and-then ! (load ! (from ! (stop !)) (look ! 11 refl)) (no-more !)) (λ w.
+            thin-told bool tyBool is-empty-def.name Empty 𝓤 H A W κ q d u ! tt w (λ b e is.
+            -- [its answer; the token; what the record owns; what the path owns; room for _10; …; room for _5, at 14; …]
+            land ! (from ! (stop !)) (init ! 14 refl (bool-lawful 𝓤 H A W .typed b _ is .0)) $
+            rewrite ! 14 (λ (y : Val). ‵ (fat fullShare tyBool l₅ 0 y)) (ap only is) refl $ drop ! $ move ! (1 ∷ 0 ∷ []) $
+            assigns ! (un ! (load ! (from ! (stop !)) (look ! 13 refl)) tt) (from ! (stop !)) (init ! 9 refl (tt, tt)) $
+            tests ! (load ! (from ! (stop !)) (look ! 9 refl))
+            (λ goes-on. inside b (within (now s) (d .at) b (of-path x (λ p. Empty p (d .at) b) e) goes-on))
+            (λ at-end. exec ! C Λ En body.t-4 (atRet En Post) $
+            -- the loop is left: the count is the result
+            assigns ! (agg ! (and-then ! (lit ! tt) (and-then ! (load ! (from ! (stop !)) (look ! 17 refl)) (no-more !)))) (from ! (stop !))
+            (init ! 23 refl (typed-check (Segments (x .count)) (made (x .count) (count-small x)))) $
+            returns ! (look ! 23 refl) $ forget ! 9 refl $ forget ! 11 refl $ forget ! 13 refl $ forget ! 17 refl $ forget ! 19 refl $ forget ! 21 refl $
+            forget ! 23 refl $
+            leaves O (Segments (x .count)) (made (x .count) (count-small x))
+            (going-end (now s) (d .at) (x .count) (x .going) (over (now s) (d .at) b (of-path x (λ p. Empty p (d .at) b) e) at-end)))))
 
-    -- the loop, and the code behind it
-    loop-runs : (x : St) → Sq W (Turn x) (runs C Λ En body.t-3 (atRet En Post))
-    loop-runs x = first ! $ blocks ! $ loops ! 𝓣 Nearer Nearer-wf Turn turns x
+      -- the loop, and the code behind it
+      loop-runs : (x : St) → Sq W (Turn x) (runs C Λ En body.t-3 (atRet En Post))
+      loop-runs x = first ! $ blocks ! $ loops ! 𝓣 Nearer Nearer-wf Turn turns x
 
-  walk : (𝓣 : Tables 𝓤 H) → Triple 𝓤 (𝓣 .C new-def.name) (New 𝓤 H A mem run) → Triple 𝓤 (𝓣 .C is-empty-def.name) (IsEmpty 𝓤 H A mem run) → Triple 𝓤 (𝓣 .C segment-def.name) (Seg 𝓤 H A mem run) → Triple 𝓤 (𝓣 .C next-of-def.name) (NextOf 𝓤 H A mem run) → Triple 𝓤 (𝓣 .C moved-def.name) (Moved 𝓤 H A mem run)
+  walk : (𝓣 : Tables 𝓤 H) → Triple 𝓤 (𝓣 .C new-def.name) (New 𝓤 H A mem run) → Triple 𝓤 (𝓣 .C is-empty-def.name) (IsEmpty 𝓤 H A mem run)
+      → Triple 𝓤 (𝓣 .C segment-def.name) (Seg 𝓤 H A mem run) → Triple 𝓤 (𝓣 .C next-of-def.name) (NextOf 𝓤 H A mem run)
+      → Triple 𝓤 (𝓣 .C moved-def.name) (Moved 𝓤 H A mem run)
       → ent 𝓤 (onEntry 𝓤 H A count.signature (κ, tt) (q, tt) (s, tt) vals) (WpFn 𝓤 H (𝓣 .C) (𝓣 .Λ) code.function (v ∷ []) Post)
   walk 𝓣 known-new known-is-empty known-segment known-next-of known-moved =
       qed W (raw (onEntry 𝓤 H A count.signature (κ, tt) (q, tt) (s, tt) vals) ∷ []) ∵ enter ! (𝓣 .C) (𝓣 .Λ) code.function (v ∷ []) _ $
-      alloc1 ! (λ l₀. alloc1 ! (λ l₁. alloc1 ! (λ l₂. alloc1 ! (λ l₃. alloc1 ! (λ l₄. alloc1 ! (λ l₅. alloc1 ! (λ l₆. alloc1 ! (λ l₇. alloc1 ! (λ l₈. alloc1 ! (λ l₉. alloc1 ! (λ l₁₀. alloc0 ! $
+      alloc1 ! (λ l₀. alloc1 ! (λ l₁. alloc1 ! (λ l₂. alloc1 ! (λ l₃. alloc1 !
+      (λ l₄. alloc1 ! (λ l₅. alloc1 ! (λ l₆. alloc1 ! (λ l₇. alloc1 ! (λ l₈. alloc1 ! (λ l₉. alloc1 ! (λ l₁₀. alloc0 ! $
       params1 ! $ pass1 ! (init ! 18 refl (shr-slice-lawful 𝓤 H A W (named 0) κ u8 .typed s (v ∷ []) path-is .0)) $ pass0 ! $
       move ! (22 ∷ []) $ use1 W (raw (New 𝓤 H A mem run .pre (to-new 𝓤 H A W κ mem run q s v)) ⊛ ‵ Own) enters $ split ! $
-      calls-at ! (fmOf 𝓤 H (W .laws) 𝓣) (New 𝓤 H A mem run) known-new (to-new 𝓤 H A W κ mem run q s v) (and-then ! (load ! (from ! (stop !)) (look ! 20 refl)) (no-more !)) (λ u.
+      calls-at ! (fmOf 𝓤 H (W .laws) 𝓣) (New 𝓤 H A mem run) known-new (to-new 𝓤 H A W κ mem run q s v)
+      (and-then ! (load ! (from ! (stop !)) (look ! 20 refl)) (no-more !)) (λ u.
       new-told 𝓤 H A W κ mem run q s v ! tt u (λ r e is.
       -- [what the record owns; the token; what the path owns; room for _10; …; room for _2, at 19; _1; …; room for _0; …]
       land ! (from ! (stop !)) (init ! 19 refl (typed-reader 𝓤 H A W κ r u is)) $
@@ -367,13 +405,18 @@ module _ {M : Type 1} (𝓤 : URA M) (H : Heap 𝓤) (A : Atoms 𝓤) (W : Given
       loop-runs 𝓣 l₀ l₁ l₂ l₃ l₄ l₅ l₆ l₇ l₈ l₉ l₁₀ known-is-empty known-segment known-next-of known-moved (start r u is e))))))))))))))
 
 module _ {M : Type 1} (𝓤 : URA M) (H : Heap 𝓤) (A : Atoms 𝓤) (W : Given 𝓤 H A) (mem : Memory → SProp 𝓤) (run : Routine → Fun 𝓤) (𝓣 : Tables 𝓤 H)
-    (known-new : Triple 𝓤 (𝓣 .C new-def.name) (New 𝓤 H A mem run)) (known-is-empty : Triple 𝓤 (𝓣 .C is-empty-def.name) (IsEmpty 𝓤 H A mem run)) (known-segment : Triple 𝓤 (𝓣 .C segment-def.name) (Seg 𝓤 H A mem run)) (known-next-of : Triple 𝓤 (𝓣 .C next-of-def.name) (NextOf 𝓤 H A mem run)) (known-moved : Triple 𝓤 (𝓣 .C moved-def.name) (Moved 𝓤 H A mem run)) where
+    (known-new : Triple 𝓤 (𝓣 .C new-def.name) (New 𝓤 H A mem run)) (known-is-empty : Triple 𝓤 (𝓣 .C is-empty-def.name) (IsEmpty 𝓤 H A mem run))
+    (known-segment : Triple 𝓤 (𝓣 .C segment-def.name) (Seg 𝓤 H A mem run)) (known-next-of : Triple 𝓤 (𝓣 .C next-of-def.name) (NextOf 𝓤 H A mem run))
+    (known-moved : Triple 𝓤 (𝓣 .C moved-def.name) (Moved 𝓤 H A mem run)) where
   count-walks : Walks 𝓤 H A count.ended stayed (WpFn 𝓤 H (𝓣 .C) (𝓣 .Λ) code.function) (count.clauses 𝓤 H A mem run)
-  count-walks = walked 𝓤 H A count.ended stayed (count.clauses 𝓤 H A mem run) (WpFn 𝓤 H (𝓣 .C) (𝓣 .Λ) code.function) (λ κs. (slice-vals, tt)) (λ κs. (shr-slice-tells (named 0) (κs .0) u8, tt))
-      (λ κs qs bounds a g are. via 𝓤 _ (fst∗ 𝓤 _ (emp 𝓤)) (walk 𝓤 H A W mem run (κs .0) (qs .0) (a .0) (are .0) 𝓣 known-new known-is-empty known-segment known-next-of known-moved))
+  count-walks = walked 𝓤 H A count.ended stayed (count.clauses 𝓤 H A mem run) (WpFn 𝓤 H (𝓣 .C) (𝓣 .Λ) code.function) (λ κs. (slice-vals, tt))
+      (λ κs. (shr-slice-tells (named 0) (κs .0) u8, tt))
+      (λ κs qs bounds a g are. via 𝓤 _ (fst∗ 𝓤 _ (emp 𝓤)) (walk 𝓤 H A W mem run (κs .0) (qs .0) (a .0) (are .0) 𝓣 known-new known-is-empty known-segment
+      known-next-of known-moved))
 
   count-meets : Meets 𝓤 H A count.signature (WpFn 𝓤 H (𝓣 .C) (𝓣 .Λ) code.function) (count.spec 𝓤 H A mem run)
-  count-meets = walk-meets 𝓤 H A count.ended stayed W (goes-none-slice 𝓤 H A W 1 (0 ∷ []) tt (plain (λ _. u8)) yes, tt) (count.clauses 𝓤 H A mem run) (WpFn 𝓤 H (𝓣 .C) (𝓣 .Λ) code.function) (WpFn-mono 𝓤 H (W .laws) 𝓣 code.function) count-walks
+  count-meets = walk-meets 𝓤 H A count.ended stayed W (goes-none-slice 𝓤 H A W 1 (0 ∷ []) tt (plain (λ _. u8)) yes, tt) (count.clauses 𝓤 H A mem run)
+      (WpFn 𝓤 H (𝓣 .C) (𝓣 .Λ) code.function) (WpFn-mono 𝓤 H (W .laws) 𝓣 code.function) count-walks
 
 pub count-segments-spec : {M : Type 1} → stated.statement M
 unfolding code.routine tablesOf

@@ -117,7 +117,8 @@ module _ {M : Type 1} (𝓤 : URA M) (H : Heap 𝓤) (A : Atoms 𝓤) (W : Given
 
   -- ---- the entry: what the path owns is had twice, once for `new`
 
-  enters : ent 𝓤 (onEntry 𝓤 H A reached.signature (κ, tt) (q, tt) (s, (i, tt)) vals) (sep 𝓤 (New 𝓤 H A mem run .pre (to-new 𝓤 H A W κ mem run q s v)) (sem 𝓤 H A Own))
+  enters : ent 𝓤 (onEntry 𝓤 H A reached.signature (κ, tt) (q, tt) (s, (i, tt)) vals)
+      (sep 𝓤 (New 𝓤 H A mem run .pre (to-new 𝓤 H A W κ mem run q s v)) (sem 𝓤 H A Own))
   enters =
       qed W (Token ∷ ‵ (owns (ShrSlice (named 0) κ u8 ∷ usize ∷ []) (s, (i, tt)) vals) ∷ []) ∵
       move ! (1 ∷ []) $ fsplit ! $ move ! (1 ∷ []) $ drop ! $ use1 W (‵ Own ⊛ ‵ Own) (shr-slice-copy 𝓤 H A W (named 0) κ u8 .twice s (v ∷ [])) $ split ! $
@@ -128,8 +129,10 @@ module _ {M : Type 1} (𝓤 : URA M) (H : Heap 𝓤) (A : Atoms 𝓤) (W : Given
   exits : (t : Segment) (w : Val) → Reached (now s) i t → ent 𝓤 (⋆ 𝓤 H A (‵ (S.the-row .own t (w ∷ [])) ∷ Token ∷ ‵ Own ∷ [])) (Post w)
   exits t w e =
       qed W (‵ (S.the-row .own t (w ∷ [])) ∷ Token ∷ ‵ Own ∷ []) ∵
-      suffices ! _ (ends-at 𝓤 H A reached.ended stayed (reached.clauses 𝓤 H A mem run) W (((κ, tt), (q, tt), tt, (s, (i, tt)), vals), tt) w t (tt, (tt, tt)) (tt, (tt, tt))) $ says ! e $
-      move ! (1 ∷ []) $ frame ! $ nothing ! $ owned ! usize (Is usize) (uint-makes 𝓤 H A W w64) i _ (refl, ok) $ fjoin ! $ move ! (2 ∷ 0 ∷ []) $ fjoin ! $ frame ! $ done !
+      suffices ! _ (ends-at 𝓤 H A reached.ended stayed (reached.clauses 𝓤 H A mem run) W (((κ, tt), (q, tt), tt, (s, (i, tt)), vals), tt) w t
+      (tt, (tt, tt)) (tt, (tt, tt))) $ says ! e $
+      move ! (1 ∷ []) $ frame ! $ nothing ! $ owned ! usize (Is usize) (uint-makes 𝓤 H A W w64) i _ (refl, ok) $ fjoin ! $ move ! (2 ∷ 0 ∷ []) $ fjoin ! $
+      frame ! $ done !
 
   -- ---- the states of the loop
 
@@ -143,7 +146,16 @@ module _ {M : Type 1} (𝓤 : URA M) (H : Heap 𝓤) (A : Atoms 𝓤) (W : Given
   Nearer-wf = InvImage·wf (λ (x : St). x .left) (Nat·lt-wfRel .wf)
 
   abbrev start : (r : Reader) (u : Val) → Is (B (κ, tt)) r (u ∷ []) → NewSaid s r → St
-  start r u is e = record { reader = r; mach = u; is = is; same = e .0; left = i; fits = ok; going = subst (λ (n : ℕ). Reaching (now s) i n i) (sym (e .1)) (reaching-start (now s) i) }
+  start r u is e = record {
+    reader = r;
+    mach = u;
+    is = is;
+    same = e .0;
+    left = i;
+    fits = ok;
+    going =
+        subst (λ (n : ℕ). Reaching (now s) i n i) (sym (e .1)) (reaching-start (now s) i);
+  }
 
   -- what is said of the reader's own path, said of the path
   of-path : (x : St) (t : Segment) → Decoded (now (x .reader .path)) (x .reader .at) t → Decoded (now s) (x .reader .at) t
@@ -152,7 +164,8 @@ module _ {M : Type 1} (𝓤 : URA M) (H : Heap 𝓤) (A : Atoms 𝓤) (W : Given
   less-fits : (x : St) → x .left - 1 < 2 ^ 64
   less-fits x = let f = x .fits in omega (arith, f)
 
-  abbrev further : (x : St) (t : Segment) (n : ℕ) → Decoded (now s) (x .reader .at) t → n ≡ nextAfter t → 0 < x .left → (p : Reader) (u : Val) → Is (B (κ, tt)) p (u ∷ []) → MovedSaid (x .reader) n p → St
+  abbrev further : (x : St) (t : Segment) (n : ℕ) → Decoded (now s) (x .reader .at) t → n ≡ nextAfter t → 0 < x .left → (p : Reader) (u : Val)
+      → Is (B (κ, tt)) p (u ∷ []) → MovedSaid (x .reader) n p → St
   further x t n d e h p u is m = record {
     reader = p;
     mach = u;
@@ -164,7 +177,8 @@ module _ {M : Type 1} (𝓤 : URA M) (H : Heap 𝓤) (A : Atoms 𝓤) (W : Given
   }
 
   module _ (𝓣 : Tables 𝓤 H) (l₀ l₁ l₂ l₃ l₄ l₅ l₆ l₇ l₈ l₉ l₁₀ : ℕ)
-      (known-segment : Triple 𝓤 (𝓣 .C segment-def.name) (Seg 𝓤 H A mem run)) (known-next-of : Triple 𝓤 (𝓣 .C next-of-def.name) (NextOf 𝓤 H A mem run)) (known-moved : Triple 𝓤 (𝓣 .C moved-def.name) (Moved 𝓤 H A mem run)) where
+      (known-segment : Triple 𝓤 (𝓣 .C segment-def.name) (Seg 𝓤 H A mem run)) (known-next-of : Triple 𝓤 (𝓣 .C next-of-def.name) (NextOf 𝓤 H A mem run))
+      (known-moved : Triple 𝓤 (𝓣 .C moved-def.name) (Moved 𝓤 H A mem run)) where
     abbrev C : Calls 𝓤 H
     C = 𝓣 .C
 
@@ -185,7 +199,8 @@ module _ {M : Type 1} (𝓤 : URA M) (H : Heap 𝓤) (A : Atoms 𝓤) (W : Given
     word = tyInt w64
 
     abbrev En : Env 𝓤 H
-    En = (S′.mir, l₀) ∷ (path-ty, l₁) ∷ (word, l₂) ∷ (record-ty, l₃) ∷ (word, l₄) ∷ (tyBool, l₅) ∷ (record-ty, l₆) ∷ (word, l₇) ∷ (S′.mir, l₈) ∷ (record-ty, l₉) ∷ (record-ty, l₁₀) ∷ []
+    En = (S′.mir, l₀) ∷ (path-ty, l₁) ∷ (word, l₂) ∷ (record-ty, l₃) ∷ (word, l₄) ∷ (tyBool, l₅) ∷ (record-ty, l₆) ∷ (word, l₇) ∷ (S′.mir, l₈) ∷
+        (record-ty, l₉) ∷ (record-ty, l₁₀) ∷ []
 
     abbrev room : Ty → ℕ → Item 𝓤
     room τ l = ‵ (froom τ l 0)
@@ -235,24 +250,29 @@ module _ {M : Type 1} (𝓤 : URA M) (H : Heap 𝓤) (A : Atoms 𝓤) (W : Given
           -- `segment`
           use1 W (‵ O ⊛ ‵ O) (reader-twice 𝓤 H A W κ d u) $ split ! $ move ! (0 ∷ 2 ∷ []) $
           use2 W (raw (Seg 𝓤 H A mem run .pre (to-segment 𝓤 H A W κ mem run q d u))) (goes-segment 𝓤 H A W κ mem run q d u) $
-          calls-at ! fm (Seg 𝓤 H A mem run) known-segment (to-segment 𝓤 H A W κ mem run q d u) (and-then ! (load ! (from ! (stop !)) (look ! 5 refl)) (no-more !)) (λ w.
+          calls-at ! fm (Seg 𝓤 H A mem run) known-segment (to-segment 𝓤 H A W κ mem run q d u)
+          (and-then ! (load ! (from ! (stop !)) (look ! 5 refl)) (no-more !)) (λ w.
           segment-told 𝓤 H A W κ mem run q d u ! tt w (λ t decoded is.
           -- [the segment; the token; what the record owns; what the path owns; room for _10; …; room for _8, at 8; …]
           land ! (from ! (stop !)) (init ! 8 refl (typed-segment 𝓤 H A W t w is)) $
           -- `next_of`, which takes the segment
           use1 W (raw (NextOf 𝓤 H A mem run .pre (to-next-of 𝓤 H A W mem run t w))) (goes-next-of 𝓤 H A W mem run t w) $
-          calls-at ! fm (NextOf 𝓤 H A mem run) known-next-of (to-next-of 𝓤 H A W mem run t w) (and-then ! (load ! (from ! (stop !)) (look ! 8 refl)) (no-more !)) (λ w′.
+          calls-at ! fm (NextOf 𝓤 H A mem run) known-next-of (to-next-of 𝓤 H A W mem run t w)
+          (and-then ! (load ! (from ! (stop !)) (look ! 8 refl)) (no-more !)) (λ w′.
           next-of-told 𝓤 H A W mem run t w ! tt w′ (λ n after is-n.
           -- [the number; nothing; the token; what the record owns; what the path owns; room for _10; …; room for _7, at 11; …]
-          land ! (from ! (stop !)) (init ! 11 refl (uint-lawful 𝓤 H A W w64 .typed n _ is-n .0)) $ rewrite ! 11 (λ (y : Val). ‵ (fat fullShare word l₇ 0 y)) (ap only (is-n .0)) refl $ drop ! $ drop ! $ move ! (1 ∷ 0 ∷ []) $
+          land ! (from ! (stop !)) (init ! 11 refl (uint-lawful 𝓤 H A W w64 .typed n _ is-n .0)) $
+          rewrite ! 11 (λ (y : Val). ‵ (fat fullShare word l₇ 0 y)) (ap only (is-n .0)) refl $ drop ! $ drop ! $ move ! (1 ∷ 0 ∷ []) $
           -- `moved`
           use2 W (raw (Moved 𝓤 H A mem run .pre (to-moved 𝓤 H A W κ mem run q d u n))) (goes-moved 𝓤 H A W κ mem run q d u n (is-n .1)) $
-          calls-at ! fm (Moved 𝓤 H A mem run) known-moved (to-moved 𝓤 H A W κ mem run q d u n) (and-then ! (load ! (from ! (stop !)) (look ! 10 refl)) (and-then ! (load ! (from ! (stop !)) (look ! 8 refl)) (no-more !))) (λ u′.
+          calls-at ! fm (Moved 𝓤 H A mem run) known-moved (to-moved 𝓤 H A W κ mem run q d u n)
+          (and-then ! (load ! (from ! (stop !)) (look ! 10 refl)) (and-then ! (load ! (from ! (stop !)) (look ! 8 refl)) (no-more !))) (λ u′.
           moved-told 𝓤 H A W κ mem run q d u n ! tt u′ (λ p stands is-p.
           -- [what the new record owns; the token; what the path owns; room for _10; …; _3, at 17; …]
           land ! (from ! (stop !)) (store ! 17 refl (typed-reader 𝓤 H A W κ p u′ is-p)) $
           -- one segment fewer is left
-          assigns-last ! (bin ! (load ! (from ! (stop !)) (look ! 15 refl)) (lit ! tt) h) (from ! (stop !)) (store ! 15 refl (tt, record { fits = less-fits x })) $
+          assigns-last ! (bin ! (load ! (from ! (stop !)) (look ! 15 refl)) (lit ! tt) h) (from ! (stop !))
+          (store ! 15 refl (tt, record { fits = less-fits x })) $
           forget ! 5 refl $ forget ! 7 refl $ forget ! 9 refl $ forget ! 11 refl $ forget ! 13 refl $
           again ! Nearer Turn x (further x t n (of-path x t decoded) after h p u′ is-p stands) (omega (arith, h))))))))
 
@@ -261,13 +281,17 @@ module _ {M : Type 1} (𝓤 : URA M) (H : Heap 𝓤) (A : Atoms 𝓤) (W : Given
       ends h =
           assigns ! (of-opd ! (load ! (from ! (stop !)) (look ! 17 refl))) (from ! (stop !)) (init ! 3 refl (typed-reader 𝓤 H A W κ d u (x .is))) $
           use2 W (raw (Seg 𝓤 H A mem run .pre (to-segment 𝓤 H A W κ mem run q d u))) (goes-segment 𝓤 H A W κ mem run q d u) $
-          calls-at ! fm (Seg 𝓤 H A mem run) known-segment (to-segment 𝓤 H A W κ mem run q d u) (and-then ! (load ! (from ! (stop !)) (look ! 2 refl)) (no-more !)) (λ w.
+          calls-at ! fm (Seg 𝓤 H A mem run) known-segment (to-segment 𝓤 H A W κ mem run q d u)
+          (and-then ! (load ! (from ! (stop !)) (look ! 2 refl)) (no-more !)) (λ w.
           segment-told 𝓤 H A W κ mem run q d u ! tt w (λ t decoded is.
           -- [the segment; the token; what the path owns; _10; …; room for _0, at 23; …]
           land ! (from ! (stop !)) (init ! 23 refl (typed-segment 𝓤 H A W t w is)) $
-          returns ! (look ! 23 refl) $ forget ! 3 refl $ forget ! 13 refl $ forget ! 15 refl $ forget ! 17 refl $ forget ! 19 refl $ forget ! 21 refl $ forget ! 23 refl $
-          move ! (23 ∷ 24 ∷ []) $ free1 ! $ move ! (21 ∷ 22 ∷ []) $ free1 ! $ move ! (19 ∷ 20 ∷ []) $ free1 ! $ move ! (17 ∷ 18 ∷ []) $ free1 ! $ move ! (15 ∷ 16 ∷ []) $ free1 ! $ move ! (13 ∷ 14 ∷ []) $ free1 ! $
-          move ! (11 ∷ 12 ∷ []) $ free1 ! $ move ! (9 ∷ 10 ∷ []) $ free1 ! $ move ! (7 ∷ 8 ∷ []) $ free1 ! $ move ! (5 ∷ 6 ∷ []) $ free1 ! $ move ! (3 ∷ 4 ∷ []) $ free1 ! $ free0 ! $
+          returns ! (look ! 23 refl) $ forget ! 3 refl $ forget ! 13 refl $ forget ! 15 refl $ forget ! 17 refl $ forget ! 19 refl $ forget ! 21 refl $
+          forget ! 23 refl $
+          move ! (23 ∷ 24 ∷ []) $ free1 ! $ move ! (21 ∷ 22 ∷ []) $ free1 ! $ move ! (19 ∷ 20 ∷ []) $ free1 ! $ move ! (17 ∷ 18 ∷ []) $ free1 ! $
+          move ! (15 ∷ 16 ∷ []) $ free1 ! $ move ! (13 ∷ 14 ∷ []) $ free1 ! $
+          move ! (11 ∷ 12 ∷ []) $ free1 ! $ move ! (9 ∷ 10 ∷ []) $ free1 ! $ move ! (7 ∷ 8 ∷ []) $ free1 ! $ move ! (5 ∷ 6 ∷ []) $ free1 ! $
+          move ! (3 ∷ 4 ∷ []) $ free1 ! $ free0 ! $
           by ! (exits t w (reaching-end (now s) i (d .at) t (of-path x t decoded) (x .left) (x .going) (omega (arith, h))))))
 
       turns : Sq W (Turn x) (runs C Λ En body.turn-1 (anyQ (Turned x)))
@@ -282,14 +306,18 @@ module _ {M : Type 1} (𝓤 : URA M) (H : Heap 𝓤) (A : Atoms 𝓤) (W : Given
     loop-runs : (x : St) → Sq W (Turn x) (runs C Λ En body.t-3 (atRet En Post))
     loop-runs x = first ! $ blocks ! $ loops ! 𝓣 Nearer Nearer-wf Turn turns x
 
-  walk : (𝓣 : Tables 𝓤 H) → Triple 𝓤 (𝓣 .C new-def.name) (New 𝓤 H A mem run) → Triple 𝓤 (𝓣 .C segment-def.name) (Seg 𝓤 H A mem run) → Triple 𝓤 (𝓣 .C next-of-def.name) (NextOf 𝓤 H A mem run) → Triple 𝓤 (𝓣 .C moved-def.name) (Moved 𝓤 H A mem run)
+  walk : (𝓣 : Tables 𝓤 H) → Triple 𝓤 (𝓣 .C new-def.name) (New 𝓤 H A mem run) → Triple 𝓤 (𝓣 .C segment-def.name) (Seg 𝓤 H A mem run)
+      → Triple 𝓤 (𝓣 .C next-of-def.name) (NextOf 𝓤 H A mem run) → Triple 𝓤 (𝓣 .C moved-def.name) (Moved 𝓤 H A mem run)
       → ent 𝓤 (onEntry 𝓤 H A reached.signature (κ, tt) (q, tt) (s, (i, tt)) vals) (WpFn 𝓤 H (𝓣 .C) (𝓣 .Λ) code.function (v ∷ vint w64 i ∷ []) Post)
   walk 𝓣 known-new known-segment known-next-of known-moved =
       qed W (raw (onEntry 𝓤 H A reached.signature (κ, tt) (q, tt) (s, (i, tt)) vals) ∷ []) ∵ enter ! (𝓣 .C) (𝓣 .Λ) code.function (v ∷ vint w64 i ∷ []) _ $
-      alloc1 ! (λ l₀. alloc1 ! (λ l₁. alloc1 ! (λ l₂. alloc1 ! (λ l₃. alloc1 ! (λ l₄. alloc1 ! (λ l₅. alloc1 ! (λ l₆. alloc1 ! (λ l₇. alloc1 ! (λ l₈. alloc1 ! (λ l₉. alloc1 ! (λ l₁₀. alloc0 ! $
-      params1 ! $ pass1 ! (init ! 18 refl (shr-slice-lawful 𝓤 H A W (named 0) κ u8 .typed s (v ∷ []) path-is .0)) $ pass1 ! (init ! 16 refl (tt, record { fits = ok })) $ pass0 ! $
+      alloc1 ! (λ l₀. alloc1 ! (λ l₁. alloc1 ! (λ l₂. alloc1 ! (λ l₃. alloc1 !
+      (λ l₄. alloc1 ! (λ l₅. alloc1 ! (λ l₆. alloc1 ! (λ l₇. alloc1 ! (λ l₈. alloc1 ! (λ l₉. alloc1 ! (λ l₁₀. alloc0 ! $
+      params1 ! $ pass1 ! (init ! 18 refl (shr-slice-lawful 𝓤 H A W (named 0) κ u8 .typed s (v ∷ []) path-is .0)) $
+      pass1 ! (init ! 16 refl (tt, record { fits = ok })) $ pass0 ! $
       move ! (22 ∷ []) $ use1 W (raw (New 𝓤 H A mem run .pre (to-new 𝓤 H A W κ mem run q s v)) ⊛ ‵ Own) enters $ split ! $
-      calls-at ! (fmOf 𝓤 H (W .laws) 𝓣) (New 𝓤 H A mem run) known-new (to-new 𝓤 H A W κ mem run q s v) (and-then ! (load ! (from ! (stop !)) (look ! 20 refl)) (no-more !)) (λ u.
+      calls-at ! (fmOf 𝓤 H (W .laws) 𝓣) (New 𝓤 H A mem run) known-new (to-new 𝓤 H A W κ mem run q s v)
+      (and-then ! (load ! (from ! (stop !)) (look ! 20 refl)) (no-more !)) (λ u.
       new-told 𝓤 H A W κ mem run q s v ! tt u (λ r e is.
       -- [what the record owns; the token; what the path owns; room for _10; …; room for _3, at 17; _2; …; _1; …; room for _0; …]
       land ! (from ! (stop !)) (init ! 17 refl (typed-reader 𝓤 H A W κ r u is)) $
@@ -297,13 +325,20 @@ module _ {M : Type 1} (𝓤 : URA M) (H : Heap 𝓤) (A : Atoms 𝓤) (W : Given
       loop-runs 𝓣 l₀ l₁ l₂ l₃ l₄ l₅ l₆ l₇ l₈ l₉ l₁₀ known-segment known-next-of known-moved (start r u is e))))))))))))))
 
 module _ {M : Type 1} (𝓤 : URA M) (H : Heap 𝓤) (A : Atoms 𝓤) (W : Given 𝓤 H A) (mem : Memory → SProp 𝓤) (run : Routine → Fun 𝓤) (𝓣 : Tables 𝓤 H)
-    (known-new : Triple 𝓤 (𝓣 .C new-def.name) (New 𝓤 H A mem run)) (known-segment : Triple 𝓤 (𝓣 .C segment-def.name) (Seg 𝓤 H A mem run)) (known-next-of : Triple 𝓤 (𝓣 .C next-of-def.name) (NextOf 𝓤 H A mem run)) (known-moved : Triple 𝓤 (𝓣 .C moved-def.name) (Moved 𝓤 H A mem run)) where
+    (known-new : Triple 𝓤 (𝓣 .C new-def.name) (New 𝓤 H A mem run)) (known-segment : Triple 𝓤 (𝓣 .C segment-def.name) (Seg 𝓤 H A mem run))
+    (known-next-of : Triple 𝓤 (𝓣 .C next-of-def.name) (NextOf 𝓤 H A mem run)) (known-moved : Triple 𝓤 (𝓣 .C moved-def.name) (Moved 𝓤 H A mem run)) where
   reached-walks : Walks 𝓤 H A reached.ended stayed (WpFn 𝓤 H (𝓣 .C) (𝓣 .Λ) code.function) (reached.clauses 𝓤 H A mem run)
-  reached-walks = walked 𝓤 H A reached.ended stayed (reached.clauses 𝓤 H A mem run) (WpFn 𝓤 H (𝓣 .C) (𝓣 .Λ) code.function) (λ κs. (slice-vals, (uint-vals w64, tt))) (λ κs. (shr-slice-tells (named 0) (κs .0) u8, (uint-tells w64, tt)))
-      (λ κs qs bounds a g are. via 𝓤 _ (fst∗ 𝓤 _ (emp 𝓤)) (walk 𝓤 H A W mem run (κs .0) (qs .0) (a .0) (are .0) (a .1 .0) (are .1 .0 .1) 𝓣 known-new known-segment known-next-of known-moved))
+  reached-walks = walked 𝓤 H A reached.ended stayed (reached.clauses 𝓤 H A mem run) (WpFn 𝓤 H (𝓣 .C) (𝓣 .Λ) code.function)
+      (λ κs. (slice-vals, (uint-vals w64, tt))) (λ κs. (shr-slice-tells (named 0) (κs .0) u8, (uint-tells w64, tt)))
+      (λ κs qs bounds a g are. via 𝓤 _ (fst∗ 𝓤 _ (emp 𝓤)) (walk 𝓤 H A W mem run (κs .0) (qs .0) (a .0) (are .0) (a .1 .0) (are .1 .0 .1) 𝓣 known-new
+      known-segment known-next-of known-moved))
 
   reached-meets : Meets 𝓤 H A reached.signature (WpFn 𝓤 H (𝓣 .C) (𝓣 .Λ) code.function) (reached.spec 𝓤 H A mem run)
-  reached-meets = walk-meets 𝓤 H A reached.ended stayed W (goes-none-slice 𝓤 H A W 1 (0 ∷ []) tt (plain (λ _. u8)) yes, (goes-none 𝓤 H A W 1 (λ _. usize) yes (λ κs x f. refl), tt)) (reached.clauses 𝓤 H A mem run) (WpFn 𝓤 H (𝓣 .C) (𝓣 .Λ) code.function) (WpFn-mono 𝓤 H (W .laws) 𝓣 code.function) reached-walks
+  reached-meets = walk-meets 𝓤 H A reached.ended stayed W (
+    goes-none-slice 𝓤 H A W 1 (0 ∷ []) tt (plain (λ _. u8)) yes,
+    (goes-none 𝓤 H A W 1 (λ _. usize) yes (λ κs x f. refl), tt),
+  ) (reached.clauses 𝓤 H A mem run) (WpFn 𝓤 H (𝓣 .C) (𝓣 .Λ) code.function)
+      (WpFn-mono 𝓤 H (W .laws) 𝓣 code.function) reached-walks
 
 pub reached-spec : {M : Type 1} → stated.statement M
 unfolding code.routine tablesOf
