@@ -428,8 +428,8 @@ pub fn holds(
     templates: &[u8],
     memory: &[u8],
 ) -> bool
-    requires { let x = testAt t (length (now memory)) n in
-        let t = tablesOf (now structures) (now members) (now programs) (now tags) (now others) (now names) (now «tag_names») (now templates) in
+    requires { let t = tablesOf (now structures) (now members) (now programs) (now tags) (now others) (now names) (now «tag_names») (now templates) in
+        let x = testAt t (length (now memory)) n in
         ⌜ (i < x .others) × (j < x .upto i) ⌝ }
     ensures { λ r. let t = tablesOf (now (structures .entry)) (now (members .entry)) (now (programs .entry)) (now (tags .entry))
         (now (others .entry)) (now (names .entry)) (now («tag_names» .entry)) (now (templates .entry)) in
@@ -549,8 +549,8 @@ pub fn span_of(
     templates: &[u8],
     memory: &[u8],
 ) -> Span
-    requires { let x = testAt t (length (now memory)) n in
-        let t = tablesOf (now structures) (now members) (now programs) (now tags) (now others) (now names) (now «tag_names») (now templates) in
+    requires { let t = tablesOf (now structures) (now members) (now programs) (now tags) (now others) (now names) (now «tag_names») (now templates) in
+        let x = testAt t (length (now memory)) n in
         ⌜ (n < 53) × (i < x .others) × (i < 18446744073709551615) ⌝ }
     ensures { λ r. let t = tablesOf (now (structures .entry)) (now (members .entry)) (now (programs .entry)) (now (tags .entry))
         (now (others .entry)) (now (names .entry)) (now («tag_names» .entry)) (now (templates .entry)) in
