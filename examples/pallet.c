@@ -1,5 +1,5 @@
 /* Reads the array `Rows` of the pallet bench by a continued read, and again by ciplink_read_whole, and prints it. From the root of the repository:
- *   rt staticlib export && cc -I crates/export examples/pallet.c target/staticlib/libexport.a -o target/pallet && target/pallet */
+ *   rt staticlib ciplink && cc -I crates/ciplink examples/pallet.c target/staticlib/libciplink.a -o target/pallet && target/pallet */
 #include <stdio.h>
 #include <string.h>
 

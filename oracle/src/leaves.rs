@@ -1,4 +1,4 @@
-//! Holds the crates `path` and `model`, linked from the archive of `crates/probe`, to the reference.
+//! Holds the crates `path` and `model`, linked from the archive of `oracle/probe`, to the reference.
 //!
 //!   leaves SEED PATHS SETS     PATHS generated paths beside the set ones, and SETS table sets; exit status 1 if an
 //!                              answer differs

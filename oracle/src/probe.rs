@@ -1,4 +1,4 @@
-//! The functions of `crates/probe`, linked from its archive: a slice goes as its start and its length, and `usize::MAX`
+//! The functions of `oracle/probe`, linked from its archive: a slice goes as its start and its length, and `usize::MAX`
 //! comes back where there is nothing.
 
 use ciplink_sim::logix::leaves::Piece;

@@ -1,4 +1,4 @@
-//! Holds the entry points of `crates/export`, linked from its archive, to the reference: outcomes, replies, the buffer
+//! Holds the entry points of `crates/ciplink`, linked from its archive, to the reference: outcomes, replies, the buffer
 //! behind them, tag memory after each message, and the entry refusals; and what is told of broken tables to a model.
 //!
 //!   messages SEED SETS MESSAGES     MESSAGES messages to each of SETS table sets; exit status 1 if an answer differs

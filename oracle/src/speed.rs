@@ -1,4 +1,4 @@
-//! Times the entry points of `crates/export`, linked from its archive, beside the reference, and prints a table.
+//! Times the entry points of `crates/ciplink`, linked from its archive, beside the reference, and prints a table.
 //!
 //!   speed [RUNS]     each side in turn, RUNS times; the table has the medians
 

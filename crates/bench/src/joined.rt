@@ -37,7 +37,7 @@ fn last_id(entries: &[u8]) -> u32 {
             return id;
         }
         id = cip::u32_at(entries, at);
-        let size = 8 + listing::replies::wide16(cip::u16_at(entries, at + 4));
+        let size = 8 + cip::numbers::wide16(cip::u16_at(entries, at + 4));
         if entries.len() - at < size {
             return id;
         }

@@ -1,4 +1,5 @@
 // What was compared: a line of output for each comparison, and the counts.
+use cip::numbers;
 ghost use mathlib.Core.Path.{_≡_};
 ghost use mathlib.Core.Bool.{true};
 use libc::STDOUT_FILENO;
@@ -12,27 +13,19 @@ pub fn none() -> Tally {
     Tally { ok: 0, differ: 0 }
 }
 
-fn text(s: &[u8]) {
+pub fn text(s: &[u8]) {
     io::write_all(STDOUT_FILENO, s);
 }
 
-fn number(n: u64) {
+pub fn number(n: u64) {
     io::print_decimal(STDOUT_FILENO, n);
 }
 
-fn byte(x: u8) -> u64 {
-    x as u64
-}
-
-fn long(x: usize) -> u64 {
-    x as u64
-}
-
-fn hex(s: &[u8]) {
+pub fn hex(s: &[u8]) {
     let mut i = 0;
     while i < s.len() {
         text(b" ");
-        io::print_hex(STDOUT_FILENO, byte(s[i]), 2);
+        io::print_hex(STDOUT_FILENO, numbers::long8(s[i]), 2);
         i += 1;
     }
 }
@@ -98,14 +91,14 @@ pub fn replies(t: Tally, got: usize, expected: usize) -> Tally {
     text(b"  in replies");
     if got == expected {
         text(b": ok ");
-        number(long(got));
+        number(numbers::long_size(got));
         text(b"\n");
         return one_ok(t);
     }
     text(b": DIFFERS ");
-    number(long(got));
+    number(numbers::long_size(got));
     text(b", expected ");
-    number(long(expected));
+    number(numbers::long_size(expected));
     text(b"\n");
     one_differs(t)
 }

@@ -1,5 +1,5 @@
 // What breaks the base tables: each edit changes one word or byte, or how many rows or bytes there are.
-use model::lookup::wide;
+use cip::numbers::wide;
 use wording::MEMBERS;
 use wording::NO_TABLE;
 use wording::OTHERS;

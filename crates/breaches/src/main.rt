@@ -5,8 +5,8 @@ mod base;
 mod edits;
 
 use crate::edits::Edit;
+use cip::numbers::wide;
 use libc::STDOUT_FILENO;
-use model::lookup::wide;
 use tables::rules::Told;
 use wording::MEMBERS;
 use wording::OTHERS;

@@ -1,5 +1,9 @@
 // CIP replies in a lent buffer: little-endian numbers, the reply header, statuses, the zeros after a reply.
 // Each writer's contract is one equation: the buffer at exit is the buffer at entry with these bytes put in.
+pub mod codes;
+pub mod numbers;
+pub mod replies;
+
 ghost use mathlib.Core.Path.{_≡_};
 ghost use mathlib.Core.List.{[], _∷_};
 ghost use Prim.Native.Nat.{_+_, _*_, _<_, _≤_};

@@ -23,7 +23,7 @@ use Rattle.cip.specs.Writes.{Written, Laid}
 use Rattle.listing.specs.Entries.{stopped, Stepped, more, full, done, Further}
 use Rattle.listing.specs.declared.pages.Step.{Step}
 use Rattle.listing.specs.declared.pages.Step.the-variants.{More, Full, Done}
-use Rattle.listing.proofs.Laws.{reply-body, header-four, reply-long}
+use Rattle.cip.proofs.Capped.{reply-body, header-four, reply-long}
 
 -- ---- the reply of a page that has some entries already: `first` says that it has none yet
 

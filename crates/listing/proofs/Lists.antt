@@ -27,7 +27,7 @@ use Rattle.listing.specs.declared.values.Value.the-variants.{Byte, Short
 use Rattle.listing.specs.declared.attributes.Object.{Object}
 use Rattle.listing.specs.declared.attributes.Count.{Count}
 use Rattle.listing.specs.declared.attributes.Count.the-variants.{Of, Missing}
-use Rattle.listing.proofs.Laws.{header-then, capped-fits, capped-large}
+use Rattle.cip.proofs.Capped.{header-then, capped-fits, capped-large}
 
 -- ---- the numbers
 

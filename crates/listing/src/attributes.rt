@@ -1,8 +1,15 @@
 // Attribute lists of a structure (class 0x6C) and of a symbol (class 0x6B).
-use crate::replies;
 use crate::values;
 use crate::values::Value;
 use cip::Status;
+use cip::numbers;
+use cip::replies;
+use model::columns::OTHER_NAME_LENGTH;
+use model::columns::OTHER_NAME_START;
+use model::columns::STRUCTURE_HANDLE;
+use model::columns::STRUCTURE_MEMBERS;
+use model::columns::STRUCTURE_SIZE;
+use model::columns::TEMPLATE_LENGTH;
 use model::lookup::Found;
 ghost use mathlib.Core.Path.{_≡_};
 ghost use mathlib.Core.List.{[], _∷_, _++_};
@@ -45,7 +52,7 @@ pub fn count_of(body: &[u8]) -> Count
         return Count::Missing;
     }
     let n = cip::u16_at(body, 0);
-    if body.len() < 2 + 2 * replies::wide16(n) {
+    if body.len() < 2 + 2 * numbers::wide16(n) {
         return Count::Missing;
     }
     Count::Of(n)
@@ -61,17 +68,22 @@ fn words_of(size: u32) -> u32
 fn structure_of(row: &[u32; 10]) -> Object
     ensures { λ r. ⌜ r ≡ structureObject (now (row .entry)) ⌝ }
 {
-    Object::Structure(row[3], row[6], row[9], row[4])
+    Object::Structure(
+        row[STRUCTURE_HANDLE],
+        row[STRUCTURE_MEMBERS],
+        row[TEMPLATE_LENGTH],
+        row[STRUCTURE_SIZE],
+    )
 }
 
 fn structure_value(handle: u32, members: u32, template: u32, size: u32, number: u16) -> Value
     ensures { λ r. ⌜ valueOf r ≡ objectValue (Structure handle members template size) number ⌝ }
 {
     if number == 1 {
-        return Value::Short(replies::low16(handle));
+        return Value::Short(numbers::low16(handle));
     }
     if number == 2 {
-        return Value::Short(replies::low16(members));
+        return Value::Short(numbers::low16(members));
     }
     if number == 4 {
         return Value::Long(words_of(template));
@@ -86,7 +98,7 @@ fn program_value(k: usize, number: u16) -> Value
     ensures { λ r. ⌜ valueOf r ≡ objectValue (Program k) number ⌝ }
 {
     if number == 0x0D {
-        return Value::Reference(instance_of(replies::word_of(k)));
+        return Value::Reference(instance_of(numbers::low16_size(k)));
     }
     Value::Unknown
 }
@@ -173,7 +185,7 @@ fn send_list(o: Object, service: u8, body: &[u8], n: usize, limit: usize, buf: &
         (now (buf .entry)) r (now (buf .exit)) ⌝ }
 {
     cip::put_header(buf, service, Status::Success);
-    cip::put_u16(buf, 4, replies::word_of(n));
+    cip::put_u16(buf, 4, numbers::low16_size(n));
     let used = put_list(buf, 6, o, body, n);
     cip::finish(buf, limit, used)
 }
@@ -187,7 +199,7 @@ fn attribute_list(o: Object, service: u8, body: &[u8], limit: usize, buf: &mut [
     let Count::Of(count) = count_of(body) else {
         return replies::refuse(service, Status::TooShort, limit, buf);
     };
-    let n = replies::wide16(count);
+    let n = numbers::wide16(count);
     if limit < list_size(o, body, n) {
         return cip::fail(buf, limit, service, Status::TooLarge);
     }
@@ -270,7 +282,11 @@ pub fn symbol_attributes(
 {
     match model::lookup::find_other_id(others, 0, id) {
         Found::At(i) => {
-            let name = model::lookup::part_of(names, others[i][1], others[i][2]);
+            let name = model::lookup::part_of(
+                names,
+                others[i][OTHER_NAME_START],
+                others[i][OTHER_NAME_LENGTH],
+            );
             attribute_list(
                 named_object(programs, names, name),
                 service,

@@ -1,7 +1,7 @@
 // A symbol's entry of a page: its ID, then the listed attributes.
-use crate::replies;
 use crate::values;
 use crate::values::Value;
+use cip::numbers;
 ghost use mathlib.Core.Path.{_≡_};
 ghost use mathlib.Core.List.{[], _∷_, _++_};
 ghost use Prim.Native.Nat.{_+_, _*_, _%_, _≤_, _<_};
@@ -44,7 +44,7 @@ fn symbol_value(s: Symbol, number: u16) -> Value
     ensures { λ r. ⌜ valueBytes r ≡ otherAttribute s number ⌝ }
 {
     if number == 2 {
-        return Value::Short(replies::low16(s.kind));
+        return Value::Short(numbers::low16(s.kind));
     }
     if number == 3 {
         return Value::Long(address_of(s.id, 0x100, 0x100000));
@@ -56,7 +56,7 @@ fn symbol_value(s: Symbol, number: u16) -> Value
         return Value::Long(s.control);
     }
     if number == 7 {
-        return Value::Short(replies::low16(s.size));
+        return Value::Short(numbers::low16(s.size));
     }
     if number == 8 {
         return Value::Three(s.first, s.second, s.third);
@@ -80,7 +80,7 @@ fn put_attribute(buf: &mut [u8], at: usize, name: &[u8], s: Symbol, number: u16)
     ensures { λ r. ⌜ Written at (symbolAttribute (made (now (name .entry)) s) number) (now (buf .entry)) r (now (buf .exit)) ⌝ }
 {
     if number == 1 {
-        cip::put_u16(buf, at, replies::word_of(name.len()));
+        cip::put_u16(buf, at, numbers::low16_size(name.len()));
         cip::copy_into(buf, at + 2, name);
         return 2 + name.len();
     }

@@ -2,7 +2,6 @@
 pub mod attributes;
 pub mod entries;
 pub mod pages;
-pub mod replies;
 pub mod requests;
 pub mod symbols;
 pub mod templates;

@@ -1,9 +1,15 @@
 // Symbol pages: the attributes that a page knows, and one entry after another by ascending ID, as far as they fit.
 use crate::entries;
 use crate::entries::Symbol;
-use crate::replies;
 use crate::symbols;
 use cip::Status;
+use cip::replies;
+use model::columns::OTHER_NAME_LENGTH;
+use model::columns::OTHER_NAME_START;
+use model::columns::TAG_ID;
+use model::columns::TAG_NAME_LENGTH;
+use model::columns::TAG_NAME_START;
+use model::columns::TAG_SCOPE;
 use model::least::Next;
 ghost use mathlib.Core.Path.{_≡_};
 ghost use mathlib.Core.Bool.{false};
@@ -122,8 +128,8 @@ fn next_near(tags: &[[u32; 12]], others: &[[u32; 5]], scope: u32, bound: u64, hi
     ensures { λ r. ⌜ r ≡ nextIn (now (tags .entry)) (now (others .entry)) scope bound ⌝ }
 {
     if hint < tags.len() {
-        if is_at(tags[hint][0], tags[hint][3], scope, bound) {
-            return Next::Tag(hint, tags[hint][3]);
+        if is_at(tags[hint][TAG_SCOPE], tags[hint][TAG_ID], scope, bound) {
+            return Next::Tag(hint, tags[hint][TAG_ID]);
         }
     }
     model::least::next_symbol(tags, others, scope, bound)
@@ -153,7 +159,11 @@ pub fn page_step(
 {
     match next_near(tags, others, scope, bound, hint) {
         Next::Tag(i, id) => {
-            let name = model::lookup::part_of(tag_names, tags[i][1], tags[i][2]);
+            let name = model::lookup::part_of(
+                tag_names,
+                tags[i][TAG_NAME_START],
+                tags[i][TAG_NAME_LENGTH],
+            );
             entry_step(
                 name,
                 symbols::tag_symbol(structures, &tags[i]),
@@ -167,7 +177,11 @@ pub fn page_step(
             )
         }
         Next::Other(i, id) => {
-            let name = model::lookup::part_of(names, others[i][1], others[i][2]);
+            let name = model::lookup::part_of(
+                names,
+                others[i][OTHER_NAME_START],
+                others[i][OTHER_NAME_LENGTH],
+            );
             entry_step(
                 name,
                 symbols::other_symbol(&others[i]),

@@ -2,8 +2,9 @@
 use crate::attributes;
 use crate::attributes::Count;
 use crate::pages;
-use crate::replies;
 use cip::Status;
+use cip::codes::SYMBOL_CLASS;
+use cip::numbers;
 use model::lookup::Found;
 use path::Object;
 use path::Segment;
@@ -15,9 +16,6 @@ ghost use Rattle.laws.specs.Pick.{isSome};
 ghost use Rattle.definition.specs.Reply.{room};
 ghost use Rattle.definition.specs.Segment.{segments, segmentsFrom};
 ghost use Rattle.listing.specs.Pages.{firstOf, BeginsAt, Begins, SomeListed, Lists};
-
-/// The class of symbols.
-const SYMBOL_CLASS: u32 = 0x6B;
 
 /// Where a page starts: a scope and the start ID; or a path that no page has.
 pub enum Begin {
@@ -109,7 +107,7 @@ pub fn list_symbols(
     let Count::Of(count) = attributes::count_of(body) else {
         return cip::fail(buf, limit, service, Status::TooShort);
     };
-    let n = replies::wide16(count);
+    let n = numbers::wide16(count);
     if pages::all_listed(body, n) {
         return pages::put_page(
             structures,

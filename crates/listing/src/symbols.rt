@@ -1,5 +1,14 @@
 // Table rows as the symbols that a page lists.
 use crate::entries::Symbol;
+use model::columns::OTHER_ID;
+use model::columns::OTHER_TYPE;
+use model::columns::TAG_ACCESS;
+use model::columns::TAG_ALIAS;
+use model::columns::TAG_ID;
+use model::columns::TAG_LENGTH_1;
+use model::columns::TAG_LENGTH_2;
+use model::columns::TAG_LENGTH_3;
+use model::columns::TAG_TYPE;
 ghost use mathlib.Core.Path.{_≡_};
 ghost use mathlib.Core.List.{[], _∷_};
 ghost use Prim.Native.Nat.{_%_, _≤_};
@@ -52,14 +61,18 @@ pub fn tag_symbol(structures: &[[u32; 10]], row: &[u32; 12]) -> Symbol
     let shapes = model::shapes::shapes(row);
     let listed = shapes[0];
     Symbol {
-        id: row[3],
-        kind: model::types::symbol_type(structures, row[4], count_lengths(row[5], row[6], row[7])),
-        control: control_of(row[10]),
-        size: model::types::element_size(structures, row[4]),
+        id: row[TAG_ID],
+        kind: model::types::symbol_type(
+            structures,
+            row[TAG_TYPE],
+            count_lengths(row[TAG_LENGTH_1], row[TAG_LENGTH_2], row[TAG_LENGTH_3]),
+        ),
+        control: control_of(row[TAG_ALIAS]),
+        size: model::types::element_size(structures, row[TAG_TYPE]),
         first: listed[0],
         second: listed[1],
         third: listed[2],
-        access: low8(row[9]),
+        access: low8(row[TAG_ACCESS]),
     }
 }
 
@@ -67,8 +80,8 @@ pub fn other_symbol(row: &[u32; 5]) -> Symbol
     ensures { λ r. ⌜ OtherMade (now (row .entry)) r ⌝ }
 {
     Symbol {
-        id: row[3],
-        kind: row[4],
+        id: row[OTHER_ID],
+        kind: row[OTHER_TYPE],
         control: 0,
         size: 0,
         first: 0,

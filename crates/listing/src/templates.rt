@@ -1,8 +1,10 @@
 // A template read: bytes of the template store from an offset on, cut to the limit.
-use crate::replies;
 use cip::Status;
+use cip::numbers;
+use cip::replies;
+use model::columns::TEMPLATE_LENGTH;
+use model::columns::TEMPLATE_START;
 use model::lookup::Found;
-use tags::reads;
 ghost use mathlib.Core.Path.{_≡_};
 ghost use mathlib.Core.List.{[]};
 ghost use Prim.Native.Nat.{_+_, _≤_, _<_};
@@ -54,7 +56,7 @@ fn send_part<'a>(
     if nothing_fits(due, space) {
         return cip::fail(buf, limit, service, Status::TooLarge);
     }
-    let n = replies::smaller(due, space);
+    let n = numbers::smaller(due, space);
     let bytes = reads::chunk(templates, memory, true, from, n);
     replies::send(bytes, service, part_status(due, space), limit, buf)
 }
@@ -81,14 +83,14 @@ fn template_reply<'a>(
     if size < offset {
         return cip::fail(buf, limit, service, Status::BeyondEnd);
     }
-    let wanted = replies::wide16(cip::u16_at(body, 4));
-    let left = model::lookup::wide(size - offset);
-    let from = model::lookup::wide(start) + model::lookup::wide(offset);
+    let wanted = numbers::wide16(cip::u16_at(body, 4));
+    let left = cip::numbers::wide(size - offset);
+    let from = cip::numbers::wide(start) + cip::numbers::wide(offset);
     send_part(
         templates,
         memory,
         from,
-        replies::smaller(wanted, left),
+        numbers::smaller(wanted, left),
         service,
         limit,
         buf,
@@ -115,8 +117,8 @@ pub fn read_template<'a>(
         Found::At(i) => template_reply(
             templates,
             memory,
-            structures[i][8],
-            structures[i][9],
+            structures[i][TEMPLATE_START],
+            structures[i][TEMPLATE_LENGTH],
             service,
             body,
             limit,

@@ -17,7 +17,7 @@ use Rattle.definition.specs.Reply.{Answer, Status, reply, room, fail, tooLarge,
 use Rattle.definition.specs.Envelope.{envelopeService}
 use Rattle.cip.specs.Statuses.{hasWord}
 use Rattle.cip.specs.Writes.{Written, Laid}
-use Rattle.listing.proofs.Laws.{header-then}
+use Rattle.cip.proofs.Capped.{header-then}
 use Rattle.services.specs.Answers.{Answers}
 use Rattle.logix.specs.Placed.{Copied, Placed, PartAnswers, marked, outcomeOf, Closed}
 use Rattle.logix.specs.declared.parts.PartReply.{PartReply}

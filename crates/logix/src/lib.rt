@@ -107,10 +107,10 @@ fn multi_service(
         (now (buf .entry)) r (now (buf .exit)) (now (memory .exit)) ⌝ }
 {
     if !parts::takes_envelopes(flags) {
-        return cip::fail(buf, limit, parts::ENVELOPE, Status::NotSupported);
+        return cip::fail(buf, limit, cip::codes::ENVELOPE, Status::NotSupported);
     }
     if !parts::has_parts(body) {
-        return cip::fail(buf, limit, parts::ENVELOPE, Status::TooShort);
+        return cip::fail(buf, limit, cip::codes::ENVELOPE, Status::TooShort);
     }
     let count = parts::count_of(body);
     let mut used = parts::OFFSETS + 2 * count;
@@ -168,7 +168,7 @@ fn part(
         ⌜ PartAnswers (partAnswer (partDispatch t (flagsOf flags)) (now (memory .entry)) (now (p .entry)) budget) budget limit used
         (now (buf .entry)) r (now (buf .exit)) (now (memory .exit)) ⌝ }
 {
-    if parts::first_of(p) == parts::ENVELOPE {
+    if parts::first_of(p) == cip::codes::ENVELOPE {
         return parts::refuse_part(buf, limit, used);
     }
     if 8 <= budget {

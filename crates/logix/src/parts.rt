@@ -1,5 +1,8 @@
 // The pieces of an envelope: the test for it, its parts, and what is written around their replies.
 use cip::Status;
+use cip::codes::ENVELOPE;
+use cip::codes::ROUTER_CLASS;
+use cip::codes::ROUTER_INSTANCE;
 use model::Flags;
 use path::Object;
 ghost use mathlib.Core.Path.{_≡_};
@@ -17,14 +20,6 @@ ghost use Rattle.cip.specs.Statuses.{statusOf};
 ghost use Rattle.model.specs.Tables.{flagsOf};
 ghost use Rattle.logix.specs.Answered.{EnvelopeTest};
 ghost use Rattle.logix.specs.Placed.{markAt, PartOf, Copied, marked, outcomeOf, Closed};
-
-/// The service of an envelope.
-pub const ENVELOPE: u8 = 0x0A;
-
-/// The message router, which takes envelopes.
-const ROUTER_CLASS: u32 = 0x02;
-
-const ROUTER_INSTANCE: u32 = 1;
 
 /// A reply's header and the count of parts.
 pub const OFFSETS: usize = 6;
@@ -76,7 +71,7 @@ pub fn count_of(body: &[u8]) -> usize
     requires { ⌜ 2 ≤ length (now body) ⌝ }
     ensures { λ r. ⌜ (r ≡ u16At (now (body .entry)) 0) × (r ≤ 65535) ⌝ }
 {
-    listing::replies::wide16(cip::u16_at(body, 0))
+    cip::numbers::wide16(cip::u16_at(body, 0))
 }
 
 /// The offset of a part, or the body's end behind the last one.
@@ -85,7 +80,7 @@ pub fn mark(body: &[u8], count: usize, i: usize) -> usize
     ensures { λ r. ⌜ r ≡ markAt (now (body .entry)) count i ⌝ }
 {
     if i < count {
-        return listing::replies::wide16(cip::u16_at(body, 2 + 2 * i));
+        return cip::numbers::wide16(cip::u16_at(body, 2 + 2 * i));
     }
     body.len()
 }
@@ -171,11 +166,7 @@ pub fn put_offset(buf: &mut [u8], limit: usize, used: usize, i: usize)
     if used > limit {
         return;
     }
-    cip::put_u16(
-        buf,
-        OFFSETS + 2 * i,
-        listing::replies::word_of(used - COUNT),
-    );
+    cip::put_u16(buf, OFFSETS + 2 * i, cip::numbers::low16_size(used - COUNT));
 }
 
 /// A part's reply, copied to `used` where it fits the limit; else nothing is written.
@@ -230,6 +221,6 @@ pub fn close(buf: &mut [u8], limit: usize, count: usize, used: usize, fine: bool
         return cip::fail(buf, limit, ENVELOPE, Status::TooLarge);
     }
     cip::put_header(buf, ENVELOPE, outcome(fine));
-    cip::put_u16(buf, COUNT, listing::replies::word_of(count));
+    cip::put_u16(buf, COUNT, cip::numbers::low16_size(count));
     cip::finish(buf, limit, used)
 }

@@ -1,4 +1,9 @@
 // The symbol of the least ID not below a bound, among a scope's tags and other symbols: the next entry of a page.
+use crate::columns::OTHER_ID;
+use crate::columns::OTHER_SCOPE;
+use crate::columns::TAG_ID;
+use crate::columns::TAG_SCOPE;
+use cip::numbers;
 ghost use mathlib.Core.Path.{_≡_};
 ghost use Prim.Native.Nat.{_≤_};
 ghost use lib.ListN.{length};
@@ -39,16 +44,10 @@ fn least_step(row_scope: u32, id: u32, scope: u32, bound: u64, i: usize, rest: L
     if row_scope != scope {
         return rest;
     }
-    if long(id) < bound {
+    if numbers::long(id) < bound {
         return rest;
     }
     nearer_id(i, id, rest)
-}
-
-fn long(x: u32) -> u64
-    ensures { λ r. ⌜ r ≡ x ⌝ }
-{
-    x as u64
 }
 
 pub fn least_tag(tags: &[[u32; 12]], scope: u32, bound: u64) -> Least
@@ -58,7 +57,7 @@ pub fn least_tag(tags: &[[u32; 12]], scope: u32, bound: u64) -> Least
     let mut best = Least::Empty;
     while 0 < i {
         i -= 1;
-        best = least_step(tags[i][0], tags[i][3], scope, bound, i, best);
+        best = least_step(tags[i][TAG_SCOPE], tags[i][TAG_ID], scope, bound, i, best);
     }
     best
 }
@@ -70,7 +69,14 @@ pub fn least_other(others: &[[u32; 5]], scope: u32, bound: u64) -> Least
     let mut best = Least::Empty;
     while 0 < i {
         i -= 1;
-        best = least_step(others[i][0], others[i][3], scope, bound, i, best);
+        best = least_step(
+            others[i][OTHER_SCOPE],
+            others[i][OTHER_ID],
+            scope,
+            bound,
+            i,
+            best,
+        );
     }
     best
 }

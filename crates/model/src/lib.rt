@@ -1,4 +1,5 @@
 // The data model: types, table rows, lookups, the next symbol by its ID, and what a resolved path aims at.
+pub mod columns;
 pub mod least;
 pub mod lookup;
 pub mod shapes;

@@ -1,4 +1,18 @@
 // Lookups in table rows, each the first in table order.
+use crate::columns::MEMBER_HIDDEN;
+use crate::columns::MEMBER_LOCAL;
+use crate::columns::MEMBER_NAME_LENGTH;
+use crate::columns::MEMBER_NAME_START;
+use crate::columns::OTHER_ID;
+use crate::columns::OTHER_SCOPE;
+use crate::columns::PROGRAM_NAME_LENGTH;
+use crate::columns::PROGRAM_NAME_START;
+use crate::columns::STRUCTURE_TEMPLATE;
+use crate::columns::TAG_ID;
+use crate::columns::TAG_NAME_LENGTH;
+use crate::columns::TAG_NAME_START;
+use crate::columns::TAG_SCOPE;
+use cip::numbers;
 ghost use mathlib.Core.Path.{_≡_};
 ghost use lib.Dec.{eqb};
 ghost use Rattle.laws.specs.Pick.{both};
@@ -12,18 +26,12 @@ pub enum Found {
     Nothing,
 }
 
-pub fn wide(x: u32) -> usize
-    ensures { λ r. ⌜ r ≡ x ⌝ }
-{
-    x as usize
-}
-
 /// A part of a store; what runs past its end is cut off.
 pub fn part_of(store: &[u8], start: u32, n: u32) -> &[u8]
     ensures { λ r. ⌜ now r ≡ part (now (store .entry)) start n ⌝ }
 {
-    let a = wide(start);
-    let k = wide(n);
+    let a = numbers::wide(start);
+    let k = numbers::wide(n);
     if store.len() <= a {
         return &store[store.len()..];
     }
@@ -36,7 +44,10 @@ pub fn part_of(store: &[u8], start: u32, n: u32) -> &[u8]
 fn program_is(row: &[u32; 2], names: &[u8], name: &[u8]) -> bool
     ensures { λ r. ⌜ r ≡ programIs (now (names .entry)) (now (name .entry)) (now (row .entry)) ⌝ }
 {
-    path::same_name(part_of(names, row[0], row[1]), name)
+    path::same_name(
+        part_of(names, row[PROGRAM_NAME_START], row[PROGRAM_NAME_LENGTH]),
+        name,
+    )
 }
 
 pub fn find_program(programs: &[[u32; 2]], names: &[u8], name: &[u8]) -> Found
@@ -55,10 +66,13 @@ pub fn find_program(programs: &[[u32; 2]], names: &[u8], name: &[u8]) -> Found
 fn tag_is(row: &[u32; 12], tag_names: &[u8], scope: u32, name: &[u8]) -> bool
     ensures { λ r. ⌜ r ≡ tagIs (now («tag_names» .entry)) scope (now (name .entry)) (now (row .entry)) ⌝ }
 {
-    if row[0] != scope {
+    if row[TAG_SCOPE] != scope {
         return false;
     }
-    path::same_name(part_of(tag_names, row[1], row[2]), name)
+    path::same_name(
+        part_of(tag_names, row[TAG_NAME_START], row[TAG_NAME_LENGTH]),
+        name,
+    )
 }
 
 pub fn find_tag(tags: &[[u32; 12]], tag_names: &[u8], scope: u32, name: &[u8]) -> Found
@@ -87,7 +101,7 @@ fn id_is(row_scope: u32, row_id: u32, scope: u32, id: u32) -> bool
 fn tag_has_id(row: &[u32; 12], scope: u32, id: u32) -> bool
     ensures { λ r. ⌜ r ≡ idIs scope id (now (row .entry)) ⌝ }
 {
-    id_is(row[0], row[3], scope, id)
+    id_is(row[TAG_SCOPE], row[TAG_ID], scope, id)
 }
 
 pub fn find_tag_id(tags: &[[u32; 12]], scope: u32, id: u32) -> Found
@@ -106,7 +120,7 @@ pub fn find_tag_id(tags: &[[u32; 12]], scope: u32, id: u32) -> Found
 fn other_has_id(row: &[u32; 5], scope: u32, id: u32) -> bool
     ensures { λ r. ⌜ r ≡ idIs scope id (now (row .entry)) ⌝ }
 {
-    id_is(row[0], row[3], scope, id)
+    id_is(row[OTHER_SCOPE], row[OTHER_ID], scope, id)
 }
 
 pub fn find_other_id(others: &[[u32; 5]], scope: u32, id: u32) -> Found
@@ -125,10 +139,13 @@ pub fn find_other_id(others: &[[u32; 5]], scope: u32, id: u32) -> Found
 fn member_is(row: &[u32; 9], names: &[u8], name: &[u8]) -> bool
     ensures { λ r. ⌜ r ≡ memberIs (now (names .entry)) (now (name .entry)) (now (row .entry)) ⌝ }
 {
-    if row[6] == 1 {
+    if row[MEMBER_HIDDEN] == 1 {
         return false;
     }
-    path::same_name(part_of(names, row[0], row[1]), name)
+    path::same_name(
+        part_of(names, row[MEMBER_NAME_START], row[MEMBER_NAME_LENGTH]),
+        name,
+    )
 }
 
 /// The first of some members that is not hidden and has this name.
@@ -148,7 +165,7 @@ pub fn find_member(members: &[[u32; 9]], names: &[u8], name: &[u8]) -> Found
 fn template_is(row: &[u32; 10], id: u32) -> bool
     ensures { λ r. ⌜ r ≡ templateIs id (now (row .entry)) ⌝ }
 {
-    row[2] == id
+    row[STRUCTURE_TEMPLATE] == id
 }
 
 pub fn find_template(structures: &[[u32; 10]], id: u32) -> Found
@@ -167,7 +184,7 @@ pub fn find_template(structures: &[[u32; 10]], id: u32) -> Found
 fn is_local(row: &[u32; 9]) -> bool
     ensures { λ r. ⌜ r ≡ isLocalRow (now (row .entry)) ⌝ }
 {
-    row[7] == 1
+    row[MEMBER_LOCAL] == 1
 }
 
 /// Whether some member is a local; a hidden one counts.

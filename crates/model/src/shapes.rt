@@ -1,8 +1,12 @@
 // A tag's three lengths, by value: as a page lists them, and as indexes are held against them.
+use crate::columns::TAG_ELEMENTS;
+use crate::columns::TAG_LENGTH_1;
+use crate::columns::TAG_LENGTH_2;
+use crate::columns::TAG_LENGTH_3;
+use crate::columns::TAG_TYPE;
+use cip::codes::DWORD;
 ghost use mathlib.Core.Path.{_≡_};
 ghost use Rattle.model.specs.Shapes.{dwordArray, listed3, cut3, indexed3, shapesOf};
-
-const DWORD: u32 = 0xD3;
 
 /// A DWORD tag with at least one length.
 fn is_dword_array(ty: u32, first: u32) -> bool
@@ -51,9 +55,9 @@ fn indexed(ty: u32, lengths: [u32; 3], elements: u32) -> [u32; 3]
 pub fn shapes(row: &[u32; 12]) -> [[u32; 3]; 2]
     ensures { λ r. ⌜ r ≡ shapesOf (now (row .entry)) ⌝ }
 {
-    let ty = row[4];
-    let lengths = [row[5], row[6], row[7]];
-    let elements = row[8];
+    let ty = row[TAG_TYPE];
+    let lengths = [row[TAG_LENGTH_1], row[TAG_LENGTH_2], row[TAG_LENGTH_3]];
+    let elements = row[TAG_ELEMENTS];
     let first = listed(ty, lengths, elements);
     let second = indexed(ty, lengths, elements);
     [first, second]

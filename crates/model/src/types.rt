@@ -1,4 +1,11 @@
 // Atomic codes, type words, element sizes and type headers.
+use crate::columns::STRUCTURE_HANDLE;
+use crate::columns::STRUCTURE_SIZE;
+use crate::columns::STRUCTURE_TEMPLATE;
+use cip::codes::BOOL;
+use cip::codes::DWORD;
+use cip::codes::LREAL;
+use cip::codes::REAL;
 ghost use mathlib.Core.Path.{_≡_};
 ghost use mathlib.Core.List.{[]};
 ghost use Prim.Native.Nat.{_+_, _-_, _%_, _≤_, _<_};
@@ -6,14 +13,6 @@ ghost use lib.ListN.{length, getD};
 ghost use Rattle.definition.specs.Tables.{structureSize, handle, templateId};
 ghost use Rattle.definition.specs.Types.{atomicSize, hasBits, isStructure, sizeIn, typeHeader, symbolType};
 ghost use Rattle.cip.specs.Writes.{Written};
-
-pub const BOOL: u32 = 0xC1;
-
-pub const REAL: u32 = 0xCA;
-
-pub const LREAL: u32 = 0xCB;
-
-pub const DWORD: u32 = 0xD3;
 
 /// The first structure's type word.
 pub const FIRST_STRUCTURE: u32 = 0x100;
@@ -76,7 +75,7 @@ fn structure_size(structures: &[[u32; 10]], i: usize) -> u32
     ensures { λ r. ⌜ r ≡ structureSize (getD (now (structures .entry)) i []) ⌝ }
 {
     if i < structures.len() {
-        structures[i][4]
+        structures[i][STRUCTURE_SIZE]
     } else {
         0
     }
@@ -97,7 +96,7 @@ pub fn structure_handle(structures: &[[u32; 10]], i: usize) -> u32
     ensures { λ r. ⌜ r ≡ handle (getD (now (structures .entry)) i []) ⌝ }
 {
     if i < structures.len() {
-        structures[i][3]
+        structures[i][STRUCTURE_HANDLE]
     } else {
         0
     }
@@ -108,7 +107,7 @@ fn structure_template(structures: &[[u32; 10]], i: usize) -> u32
     ensures { λ r. ⌜ r ≡ templateId (getD (now (structures .entry)) i []) ⌝ }
 {
     if i < structures.len() {
-        structures[i][2]
+        structures[i][STRUCTURE_TEMPLATE]
     } else {
         0
     }

@@ -1,4 +1,5 @@
 // Decoding request paths: segments by a table of their first bytes, whole paths, requests, tag paths and program names.
+use cip::numbers;
 ghost use mathlib.Core.Path.{_≡_};
 ghost use mathlib.Core.Bool.{true, false};
 ghost use Prim.Native.Nat.{_+_, _*_, _≤_};
@@ -316,12 +317,6 @@ fn entry_of(b: u8) -> u8
     SEGMENT_KINDS[b as usize]
 }
 
-fn wide(b: u8) -> u32
-    ensures { λ r. ⌜ r ≡ b ⌝ }
-{
-    b as u32
-}
-
 /// The value of a logical segment's form at a position.
 fn value_at(path: &[u8], at: usize, form: u8) -> Value
     requires { ⌜ at ≤ length (now path) ⌝ }
@@ -329,13 +324,13 @@ fn value_at(path: &[u8], at: usize, form: u8) -> Value
 {
     if form == 0 {
         if at + 1 <= path.len() {
-            return Value::Of(wide(path[at]), at + 1);
+            return Value::Of(numbers::word8(path[at]), at + 1);
         }
         return Value::Cut;
     }
     if form == 1 {
         if at + 3 <= path.len() {
-            return Value::Of(wide16(cip::u16_at(path, at + 1)), at + 3);
+            return Value::Of(numbers::word16(cip::u16_at(path, at + 1)), at + 3);
         }
         return Value::Cut;
     }
@@ -343,12 +338,6 @@ fn value_at(path: &[u8], at: usize, form: u8) -> Value
         return Value::Of(cip::u32_at(path, at + 1), at + 5);
     }
     Value::Cut
-}
-
-fn wide16(x: u16) -> u32
-    ensures { λ r. ⌜ r ≡ x ⌝ }
-{
-    x as u32
 }
 
 fn logical_of(kind: u8, v: Value) -> Segment
@@ -607,7 +596,7 @@ fn is_symbol_object(class: u32, second: Segment) -> bool
     ensures { λ r. ⌜ r ≡ symbolObject class second ⌝ }
 {
     match second {
-        Segment::Instance(_, _) => class == 0x6B,
+        Segment::Instance(_, _) => class == cip::codes::SYMBOL_CLASS,
         Segment::Port(_) => false,
         Segment::Class(_, _) => false,
         Segment::Element(_, _) => false,

@@ -2,6 +2,18 @@
 // The borrow checker covers no function over a slice of structs, so the four over `&[Tag]` and `&mut [Tag]` stay small and
 // are proved by a walk of their code, with a promise on the records and one on the rows that they mean. A function that
 // takes a `Tag` by value is covered.
+use model::columns::TAG_ACCESS;
+use model::columns::TAG_ALIAS;
+use model::columns::TAG_ELEMENTS;
+use model::columns::TAG_ID;
+use model::columns::TAG_LENGTH_1;
+use model::columns::TAG_LENGTH_2;
+use model::columns::TAG_LENGTH_3;
+use model::columns::TAG_NAME_LENGTH;
+use model::columns::TAG_NAME_START;
+use model::columns::TAG_OFFSET;
+use model::columns::TAG_SCOPE;
+use model::columns::TAG_TYPE;
 use model::lookup::Found;
 ghost use mathlib.Core.Path.{_≡_};
 ghost use mathlib.Core.List.{[]};
@@ -58,18 +70,18 @@ pub fn row_of(tag: Tag) -> [u32; 12]
 pub fn tag_of(row: [u32; 12]) -> Tag
     ensures { λ r. ⌜ r ≡ tagOf row ⌝ }
 {
-    let lengths = [row[5], row[6], row[7]];
+    let lengths = [row[TAG_LENGTH_1], row[TAG_LENGTH_2], row[TAG_LENGTH_3]];
     Tag {
-        scope: row[0],
-        name_start: row[1],
-        name_length: row[2],
-        id: row[3],
-        ty: row[4],
+        scope: row[TAG_SCOPE],
+        name_start: row[TAG_NAME_START],
+        name_length: row[TAG_NAME_LENGTH],
+        id: row[TAG_ID],
+        ty: row[TAG_TYPE],
         lengths: lengths,
-        elements: row[8],
-        access: row[9],
-        alias: row[10],
-        offset: row[11],
+        elements: row[TAG_ELEMENTS],
+        access: row[TAG_ACCESS],
+        alias: row[TAG_ALIAS],
+        offset: row[TAG_OFFSET],
     }
 }
 

@@ -2,7 +2,7 @@
 use crate::places::Moved;
 use crate::places::Place;
 use cip::Status;
-use model::lookup::wide;
+use cip::numbers::wide;
 use path::Segment;
 ghost use mathlib.Core.Path.{_≡_};
 ghost use mathlib.Core.Bool.{true};

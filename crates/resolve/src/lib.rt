@@ -2,6 +2,12 @@
 use cip::Status;
 use model::Flags;
 use model::Target;
+use model::columns::NO_BIT;
+use model::columns::STRUCTURE_AOI;
+use model::columns::TAG_ACCESS;
+use model::columns::TAG_ELEMENTS;
+use model::columns::TAG_OFFSET;
+use model::columns::TAG_TYPE;
 use places::Place;
 
 pub mod elements;
@@ -35,14 +41,14 @@ fn whole_tag(row: &[u32; 12], i: usize) -> Place
     let lengths = both[1];
     Place {
         tag: i,
-        start: model::lookup::wide(row[11]),
-        ty: row[4],
-        count: model::lookup::wide(row[8]),
+        start: cip::numbers::wide(row[TAG_OFFSET]),
+        ty: row[TAG_TYPE],
+        count: cip::numbers::wide(row[TAG_ELEMENTS]),
         n0: lengths[0],
         n1: lengths[1],
         n2: lengths[2],
-        bit: 8,
-        access: row[9],
+        bit: NO_BIT,
+        access: row[TAG_ACCESS],
     }
 }
 
@@ -54,7 +60,7 @@ fn aim(structures: &[[u32; 10]], g: Place) -> Target
         tag: g.tag,
         start: g.start,
         ty: g.ty,
-        size: model::lookup::wide(model::types::element_size(structures, g.ty)),
+        size: cip::numbers::wide(model::types::element_size(structures, g.ty)),
         count: g.count,
         bit: g.bit,
         access: g.access,
@@ -110,7 +116,7 @@ fn refuses_locals(structures: &[[u32; 10]], members: &[[u32; 9]], flags: Flags, 
     if structures.len() <= i {
         return false;
     }
-    if structures[i][7] != 1 {
+    if structures[i][STRUCTURE_AOI] != 1 {
         return false;
     }
     model::lookup::has_local(members::members_of(structures, members, ty))

@@ -2,9 +2,18 @@
 use crate::places::Moved;
 use crate::places::Place;
 use cip::Status;
+use cip::numbers::wide;
 use model::Flags;
+use model::columns::MEMBER_ACCESS;
+use model::columns::MEMBER_BIT;
+use model::columns::MEMBER_LENGTH;
+use model::columns::MEMBER_LOCAL;
+use model::columns::MEMBER_OFFSET;
+use model::columns::MEMBER_TYPE;
+use model::columns::NO_BIT;
+use model::columns::STRUCTURE_FIRST_MEMBER;
+use model::columns::STRUCTURE_MEMBERS;
 use model::lookup::Found;
-use model::lookup::wide;
 ghost use mathlib.Core.Path.{_≡_};
 ghost use Prim.Native.Nat.{_+_, _≤_, max};
 ghost use lib.ListN.{take, drop};
@@ -39,7 +48,11 @@ pub fn members_of<'a>(structures: &[[u32; 10]], members: &'a [[u32; 9]], ty: u32
 {
     let i = model::types::index_of(ty);
     if i < structures.len() {
-        return rows_of(members, structures[i][5], structures[i][6]);
+        return rows_of(
+            members,
+            structures[i][STRUCTURE_FIRST_MEMBER],
+            structures[i][STRUCTURE_MEMBERS],
+        );
     }
     rows_of(members, 0, 0)
 }
@@ -62,30 +75,30 @@ fn member_place(g: Place, row: &[u32; 9]) -> Place
     requires { ⌜ g .start ≤ 65536 ⌝ }
     ensures { λ r. ⌜ placeOf r ≡ memberTarget (placeOf g) (now (row .entry)) ⌝ }
 {
-    let start = further(g.start, row[4]);
-    let access = larger(g.access, row[8]);
-    if row[5] != 8 {
+    let start = further(g.start, row[MEMBER_OFFSET]);
+    let access = larger(g.access, row[MEMBER_ACCESS]);
+    if row[MEMBER_BIT] != NO_BIT {
         return Place {
             tag: g.tag,
             start: start,
-            ty: model::types::BOOL,
+            ty: cip::codes::BOOL,
             count: 1,
             n0: 0,
             n1: 0,
             n2: 0,
-            bit: row[5],
+            bit: row[MEMBER_BIT],
             access: access,
         };
     }
     Place {
         tag: g.tag,
         start: start,
-        ty: row[2],
-        count: wide(larger(1, row[3])),
-        n0: row[3],
+        ty: row[MEMBER_TYPE],
+        count: wide(larger(1, row[MEMBER_LENGTH])),
+        n0: row[MEMBER_LENGTH],
         n1: 0,
         n2: 0,
-        bit: row[5],
+        bit: row[MEMBER_BIT],
         access: access,
     }
 }
@@ -104,7 +117,7 @@ fn visible_member(flags: Flags, g: Place, row: &[u32; 9]) -> Moved
     requires { ⌜ g .start ≤ 65536 ⌝ }
     ensures { λ r. ⌜ movedOf r ≡ visibleMember (flagsOf flags) (placeOf g) (now (row .entry)) ⌝ }
 {
-    if is_refused(row[7], flags.aoi_locals_refused) {
+    if is_refused(row[MEMBER_LOCAL], flags.aoi_locals_refused) {
         return Moved::Turned(Status::PathError);
     }
     Moved::To(member_place(g, row))
@@ -140,7 +153,7 @@ pub fn member_of(
     if g.n0 != 0 {
         return Moved::Turned(Status::PathError);
     }
-    if g.bit != 8 {
+    if g.bit != NO_BIT {
         return Moved::Turned(Status::PathError);
     }
     among(members_of(structures, members, g.ty), names, flags, name, g)

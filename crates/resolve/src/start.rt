@@ -60,7 +60,7 @@ fn by_instance(tags: &[[u32; 12]], flags: Flags, scope: u32, class: u32, second:
 {
     match second {
         Segment::Instance(id, next) => {
-            if class != 0x6B {
+            if class != cip::codes::SYMBOL_CLASS {
                 return Start::Turned(Status::PathError);
             }
             if takes_instances(flags) {

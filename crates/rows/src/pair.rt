@@ -1,4 +1,16 @@
 // The tests of two rows: names, IDs and bytes.
+use cip::numbers;
+use model::columns::OTHER_ID;
+use model::columns::OTHER_NAME_LENGTH;
+use model::columns::OTHER_NAME_START;
+use model::columns::OTHER_SCOPE;
+use model::columns::PROGRAM_NAME_LENGTH;
+use model::columns::PROGRAM_NAME_START;
+use model::columns::TAG_ID;
+use model::columns::TAG_NAME_LENGTH;
+use model::columns::TAG_NAME_START;
+use model::columns::TAG_OFFSET;
+use model::columns::TAG_SCOPE;
 ghost use mathlib.Core.Path.{_≡_};
 ghost use mathlib.Core.Bool.{not};
 ghost use lib.Dec.{eqb};
@@ -11,24 +23,24 @@ use crate::row;
 pub fn tag_names_differ(a: &[u32; 12], b: &[u32; 12], tag_names: &[u8]) -> bool
     ensures { λ r. ⌜ r ≡ tagNamesDiffer (now («tag_names» .entry)) (now (a .entry)) (now (b .entry)) ⌝ }
 {
-    if a[0] != b[0] {
+    if a[TAG_SCOPE] != b[TAG_SCOPE] {
         return true;
     }
     !path::same_name(
-        model::lookup::part_of(tag_names, a[1], a[2]),
-        model::lookup::part_of(tag_names, b[1], b[2]),
+        model::lookup::part_of(tag_names, a[TAG_NAME_START], a[TAG_NAME_LENGTH]),
+        model::lookup::part_of(tag_names, b[TAG_NAME_START], b[TAG_NAME_LENGTH]),
     )
 }
 
 pub fn other_names_differ(a: &[u32; 12], b: &[u32; 5], tag_names: &[u8], names: &[u8]) -> bool
     ensures { λ r. ⌜ r ≡ otherNamesDiffer (now («tag_names» .entry)) (now (names .entry)) (now (a .entry)) (now (b .entry)) ⌝ }
 {
-    if a[0] != b[0] {
+    if a[TAG_SCOPE] != b[OTHER_SCOPE] {
         return true;
     }
     !path::same_name(
-        model::lookup::part_of(tag_names, a[1], a[2]),
-        model::lookup::part_of(names, b[1], b[2]),
+        model::lookup::part_of(tag_names, a[TAG_NAME_START], a[TAG_NAME_LENGTH]),
+        model::lookup::part_of(names, b[OTHER_NAME_START], b[OTHER_NAME_LENGTH]),
     )
 }
 
@@ -46,16 +58,10 @@ pub fn ids_differ(scope: u32, id: u32, other_scope: u32, other_id: u32) -> bool
 pub fn bytes_apart(a: &[u32; 12], b: &[u32; 12], structures: &[[u32; 10]]) -> bool
     ensures { λ r. ⌜ r ≡ apart (now (structures .entry)) (now (a .entry)) (now (b .entry)) ⌝ }
 {
-    if row::tag_end(a, structures) <= long(b[11]) {
+    if row::tag_end(a, structures) <= numbers::long(b[TAG_OFFSET]) {
         return true;
     }
-    row::tag_end(b, structures) <= long(a[11])
-}
-
-fn long(x: u32) -> u64
-    ensures { λ r. ⌜ r ≡ x ⌝ }
-{
-    x as u64
+    row::tag_end(b, structures) <= numbers::long(a[TAG_OFFSET])
 }
 
 pub fn tag_pair(a: &[u32; 12], b: &[u32; 12], structures: &[[u32; 10]], tag_names: &[u8]) -> bool
@@ -64,7 +70,7 @@ pub fn tag_pair(a: &[u32; 12], b: &[u32; 12], structures: &[[u32; 10]], tag_name
     if !tag_names_differ(a, b, tag_names) {
         return false;
     }
-    if !ids_differ(a[0], a[3], b[0], b[3]) {
+    if !ids_differ(a[TAG_SCOPE], a[TAG_ID], b[TAG_SCOPE], b[TAG_ID]) {
         return false;
     }
     bytes_apart(a, b, structures)
@@ -76,20 +82,20 @@ pub fn tag_other(a: &[u32; 12], b: &[u32; 5], tag_names: &[u8], names: &[u8]) ->
     if !other_names_differ(a, b, tag_names, names) {
         return false;
     }
-    ids_differ(a[0], a[3], b[0], b[3])
+    ids_differ(a[TAG_SCOPE], a[TAG_ID], b[OTHER_SCOPE], b[OTHER_ID])
 }
 
 pub fn other_pair(a: &[u32; 5], b: &[u32; 5]) -> bool
     ensures { λ r. ⌜ r ≡ idsDiffer (now (a .entry)) (now (b .entry)) ⌝ }
 {
-    ids_differ(a[0], a[3], b[0], b[3])
+    ids_differ(a[OTHER_SCOPE], a[OTHER_ID], b[OTHER_SCOPE], b[OTHER_ID])
 }
 
 pub fn program_pair(a: &[u32; 2], b: &[u32; 2], names: &[u8]) -> bool
     ensures { λ r. ⌜ r ≡ programNamesDiffer (now (names .entry)) (now (a .entry)) (now (b .entry)) ⌝ }
 {
     !path::same_name(
-        model::lookup::part_of(names, a[0], a[1]),
-        model::lookup::part_of(names, b[0], b[1]),
+        model::lookup::part_of(names, a[PROGRAM_NAME_START], a[PROGRAM_NAME_LENGTH]),
+        model::lookup::part_of(names, b[PROGRAM_NAME_START], b[PROGRAM_NAME_LENGTH]),
     )
 }

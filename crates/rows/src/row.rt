@@ -1,4 +1,46 @@
 // The tests of one row: its encoding, its name, its fields.
+use cip::codes::DWORD;
+use cip::numbers;
+use model::columns::MEMBER_ACCESS;
+use model::columns::MEMBER_BIT;
+use model::columns::MEMBER_HIDDEN;
+use model::columns::MEMBER_LENGTH;
+use model::columns::MEMBER_LOCAL;
+use model::columns::MEMBER_NAME_LENGTH;
+use model::columns::MEMBER_NAME_START;
+use model::columns::MEMBER_OFFSET;
+use model::columns::MEMBER_TYPE;
+use model::columns::NO_BIT;
+use model::columns::OTHER_ID;
+use model::columns::OTHER_NAME_LENGTH;
+use model::columns::OTHER_NAME_START;
+use model::columns::OTHER_SCOPE;
+use model::columns::OTHER_TYPE;
+use model::columns::PROGRAM_NAME_LENGTH;
+use model::columns::PROGRAM_NAME_START;
+use model::columns::STRUCTURE_AOI;
+use model::columns::STRUCTURE_FIRST_MEMBER;
+use model::columns::STRUCTURE_HANDLE;
+use model::columns::STRUCTURE_MEMBERS;
+use model::columns::STRUCTURE_NAME_LENGTH;
+use model::columns::STRUCTURE_NAME_START;
+use model::columns::STRUCTURE_SIZE;
+use model::columns::STRUCTURE_TEMPLATE;
+use model::columns::TAG_ACCESS;
+use model::columns::TAG_ALIAS;
+use model::columns::TAG_ELEMENTS;
+use model::columns::TAG_ID;
+use model::columns::TAG_LENGTH_1;
+use model::columns::TAG_LENGTH_2;
+use model::columns::TAG_LENGTH_3;
+use model::columns::TAG_NAME_LENGTH;
+use model::columns::TAG_NAME_START;
+use model::columns::TAG_OFFSET;
+use model::columns::TAG_SCOPE;
+use model::columns::TAG_TYPE;
+use model::columns::TEMPLATE_LENGTH;
+use model::columns::TEMPLATE_START;
+use model::types::FIRST_STRUCTURE;
 ghost use mathlib.Core.Path.{_≡_};
 ghost use Prim.Native.Nat.{_+_, _*_, _≤_, _<_, max};
 ghost use lib.Dec.{ltb, leb, eqb};
@@ -9,12 +51,6 @@ ghost use Rattle.definition.specs.Tables.{firstMember, memberCount, tagLengths}
 ghost use Rattle.definition.specs.Valid.{isName, isType, memberFits, structureFits, zerosLast, tagFits, endIn};
 ghost use Rattle.definition.specs.Breach.{nameLength, nameBytes, hasElements, endsWithin};
 ghost use Rattle.rows.specs.Judged.{nameJudged, structureNamed, structureJudged, memberJudged, programJudged, tagJudged, otherJudged, zerosLast3, product3, boolArray3};
-
-const FIRST_STRUCTURE: u32 = 0x100;
-
-const DWORD: u32 = 0xD3;
-
-const NO_BIT: u32 = 8;
 
 fn is_printable(b: u8) -> bool
     ensures { λ r. ⌜ r ≡ both (leb 0x20 b) (leb b 0x7E) ⌝ }
@@ -60,24 +96,12 @@ pub fn is_name(name: &[u8]) -> bool
     name_bytes(name)
 }
 
-fn wide(x: u32) -> usize
-    ensures { λ r. ⌜ r ≡ x ⌝ }
-{
-    x as usize
-}
-
-fn long(x: u32) -> u64
-    ensures { λ r. ⌜ (r ≡ x) × (r < 4294967296) ⌝ }
-{
-    x as u64
-}
-
 /// A name that stands in its store and is one.
 pub fn name_judged(store: &[u8], start: u32, n: u32) -> bool
     ensures { λ r. ⌜ r ≡ nameJudged (now (store .entry)) start n ⌝ }
 {
-    let a = wide(start);
-    let e = a + wide(n);
+    let a = numbers::wide(start);
+    let e = a + numbers::wide(n);
     if e > store.len() {
         return false;
     }
@@ -91,14 +115,14 @@ pub fn is_type(bound: usize, ty: u32) -> bool
     if ty < FIRST_STRUCTURE {
         return 0 < model::types::atomic_size(ty);
     }
-    wide(ty - FIRST_STRUCTURE) < bound
+    numbers::wide(ty - FIRST_STRUCTURE) < bound
 }
 
 /// `start` plus `n` times `size`, which fits 64 bits.
 fn end_of(start: u32, n: u32, size: u32) -> u64
     ensures { λ r. ⌜ r ≡ start + n * size ⌝ }
 {
-    long(start) + long(n) * long(size)
+    numbers::long(start) + numbers::long(n) * numbers::long(size)
 }
 
 fn at_least_one(n: u32) -> u32
@@ -111,21 +135,21 @@ fn at_least_one(n: u32) -> u32
 pub fn member_inside(row: &[u32; 9], structures: &[[u32; 10]], size: u32) -> bool
     ensures { λ r. ⌜ r ≡ endsWithin (now (structures .entry)) size (now (row .entry)) ⌝ }
 {
-    let bytes = model::types::element_size(structures, row[2]);
-    end_of(row[4], bytes, at_least_one(row[3])) <= long(size)
+    let bytes = model::types::element_size(structures, row[MEMBER_TYPE]);
+    end_of(row[MEMBER_OFFSET], bytes, at_least_one(row[MEMBER_LENGTH])) <= numbers::long(size)
 }
 
 /// A member of structure i, which has `size` bytes.
 fn member_fits(row: &[u32; 9], structures: &[[u32; 10]], i: usize, size: u32) -> bool
     ensures { λ r. ⌜ r ≡ memberFits (now (structures .entry)) i size (now (row .entry)) ⌝ }
 {
-    if !is_type(i, row[2]) {
+    if !is_type(i, row[MEMBER_TYPE]) {
         return false;
     }
     if !member_inside(row, structures, size) {
         return false;
     }
-    row[5] <= NO_BIT
+    row[MEMBER_BIT] <= NO_BIT
 }
 
 fn members_fit(members: &[[u32; 9]], structures: &[[u32; 10]], i: usize, size: u32) -> bool
@@ -152,7 +176,7 @@ pub fn fits16(x: u32) -> bool
 pub fn within(a: u32, b: u32, n: usize) -> bool
     ensures { λ r. ⌜ r ≡ leb (a + b) n ⌝ }
 {
-    wide(a) + wide(b) <= n
+    numbers::wide(a) + numbers::wide(b) <= n
 }
 
 /// 1 to 65,535 bytes.
@@ -169,16 +193,16 @@ pub fn size_fits(size: u32) -> bool
 fn structure_named(row: &[u32; 10], names: &[u8]) -> bool
     ensures { λ r. ⌜ r ≡ structureNamed (now (names .entry)) (now (row .entry)) ⌝ }
 {
-    if !name_judged(names, row[0], row[1]) {
+    if !name_judged(names, row[STRUCTURE_NAME_START], row[STRUCTURE_NAME_LENGTH]) {
         return false;
     }
-    if !fits16(row[2]) {
+    if !fits16(row[STRUCTURE_TEMPLATE]) {
         return false;
     }
-    if !fits16(row[3]) {
+    if !fits16(row[STRUCTURE_HANDLE]) {
         return false;
     }
-    row[7] <= 1
+    row[STRUCTURE_AOI] <= 1
 }
 
 /// T4 of the row of structure i, whose members stand in their table.
@@ -192,15 +216,15 @@ fn structure_fits(
     requires { ⌜ firstMember (now row) + memberCount (now row) ≤ length (now members) ⌝ }
     ensures { λ r. ⌜ r ≡ structureFits (now (structures .entry)) (now (members .entry)) templates i (now (row .entry)) ⌝ }
 {
-    if !size_fits(row[4]) {
+    if !size_fits(row[STRUCTURE_SIZE]) {
         return false;
     }
-    if !within(row[8], row[9], templates) {
+    if !within(row[TEMPLATE_START], row[TEMPLATE_LENGTH], templates) {
         return false;
     }
-    let first = wide(row[5]);
-    let end = first + wide(row[6]);
-    members_fit(&members[first..end], structures, i, row[4])
+    let first = numbers::wide(row[STRUCTURE_FIRST_MEMBER]);
+    let end = first + numbers::wide(row[STRUCTURE_MEMBERS]);
+    members_fit(&members[first..end], structures, i, row[STRUCTURE_SIZE])
 }
 
 /// The row of structure i.
@@ -217,7 +241,11 @@ pub fn structure_judged(
     if !structure_named(row, names) {
         return false;
     }
-    if !within(row[5], row[6], members.len()) {
+    if !within(
+        row[STRUCTURE_FIRST_MEMBER],
+        row[STRUCTURE_MEMBERS],
+        members.len(),
+    ) {
         return false;
     }
     structure_fits(row, structures, members, templates, i)
@@ -227,28 +255,28 @@ pub fn structure_judged(
 pub fn member_judged(row: &[u32; 9], names: &[u8], structures: usize) -> bool
     ensures { λ r. ⌜ r ≡ memberJudged (now (names .entry)) structures (now (row .entry)) ⌝ }
 {
-    if !name_judged(names, row[0], row[1]) {
+    if !name_judged(names, row[MEMBER_NAME_START], row[MEMBER_NAME_LENGTH]) {
         return false;
     }
-    if !is_type(structures, row[2]) {
+    if !is_type(structures, row[MEMBER_TYPE]) {
         return false;
     }
-    if row[6] > 1 {
+    if row[MEMBER_HIDDEN] > 1 {
         return false;
     }
-    if row[7] > 1 {
+    if row[MEMBER_LOCAL] > 1 {
         return false;
     }
-    if row[8] > 3 {
+    if row[MEMBER_ACCESS] > 3 {
         return false;
     }
-    row[5] <= NO_BIT
+    row[MEMBER_BIT] <= NO_BIT
 }
 
 pub fn program_judged(row: &[u32; 2], names: &[u8]) -> bool
     ensures { λ r. ⌜ r ≡ programJudged (now (names .entry)) (now (row .entry)) ⌝ }
 {
-    name_judged(names, row[0], row[1])
+    name_judged(names, row[PROGRAM_NAME_START], row[PROGRAM_NAME_LENGTH])
 }
 
 /// Nonzero lengths first, and zeros after.
@@ -277,14 +305,14 @@ fn is_product(elements: u32, a: u32, b: u32, c: u32) -> bool
     if b == 0 {
         return elements == a;
     }
-    let two = long(a) * long(b);
+    let two = numbers::long(a) * numbers::long(b);
     if c == 0 {
-        return long(elements) == two;
+        return numbers::long(elements) == two;
     }
     if two > 4294967295 {
         return false;
     }
-    long(elements) == two * long(c)
+    numbers::long(elements) == two * numbers::long(c)
 }
 
 /// A DWORD tag with one length 32k may have k elements.
@@ -300,31 +328,41 @@ fn is_bool_array(ty: u32, a: u32, b: u32, elements: u32) -> bool
     if b != 0 {
         return false;
     }
-    long(elements) * 32 == long(a)
+    numbers::long(elements) * 32 == numbers::long(a)
 }
 
 /// A tag's nonzero lengths stand first.
 pub fn lengths_first(row: &[u32; 12]) -> bool
     ensures { λ r. ⌜ r ≡ zerosLast (tagLengths (now (row .entry))) ⌝ }
 {
-    zeros_last(row[5], row[6], row[7])
+    zeros_last(row[TAG_LENGTH_1], row[TAG_LENGTH_2], row[TAG_LENGTH_3])
 }
 
 /// A tag has the product of its lengths in elements, or a BOOL array's.
 pub fn elements_fit(row: &[u32; 12]) -> bool
     ensures { λ r. ⌜ r ≡ hasElements (now (row .entry)) ⌝ }
 {
-    if is_product(row[8], row[5], row[6], row[7]) {
+    if is_product(
+        row[TAG_ELEMENTS],
+        row[TAG_LENGTH_1],
+        row[TAG_LENGTH_2],
+        row[TAG_LENGTH_3],
+    ) {
         return true;
     }
-    is_bool_array(row[4], row[5], row[6], row[8])
+    is_bool_array(
+        row[TAG_TYPE],
+        row[TAG_LENGTH_1],
+        row[TAG_LENGTH_2],
+        row[TAG_ELEMENTS],
+    )
 }
 
 /// T5 of a tag row.
 fn tag_fits(row: &[u32; 12], structures: usize) -> bool
     ensures { λ r. ⌜ r ≡ tagFits structures (now (row .entry)) ⌝ }
 {
-    if !is_type(structures, row[4]) {
+    if !is_type(structures, row[TAG_TYPE]) {
         return false;
     }
     if !lengths_first(row) {
@@ -338,9 +376,9 @@ pub fn tag_end(row: &[u32; 12], structures: &[[u32; 10]]) -> u64
     ensures { λ r. ⌜ r ≡ endIn (now (structures .entry)) (now (row .entry)) ⌝ }
 {
     end_of(
-        row[11],
-        row[8],
-        model::types::element_size(structures, row[4]),
+        row[TAG_OFFSET],
+        row[TAG_ELEMENTS],
+        model::types::element_size(structures, row[TAG_TYPE]),
     )
 }
 
@@ -361,19 +399,19 @@ pub fn tag_judged(
 ) -> bool
     ensures { λ r. ⌜ r ≡ tagJudged (now (structures .entry)) (now («tag_names» .entry)) programs memory (now (row .entry)) ⌝ }
 {
-    if wide(row[0]) > programs {
+    if numbers::wide(row[TAG_SCOPE]) > programs {
         return false;
     }
-    if !name_judged(tag_names, row[1], row[2]) {
+    if !name_judged(tag_names, row[TAG_NAME_START], row[TAG_NAME_LENGTH]) {
         return false;
     }
-    if row[10] > 1 {
+    if row[TAG_ALIAS] > 1 {
         return false;
     }
-    if row[9] > 3 {
+    if row[TAG_ACCESS] > 3 {
         return false;
     }
-    if row[3] == 0 {
+    if row[TAG_ID] == 0 {
         return false;
     }
     if !tag_fits(row, structures.len()) {
@@ -386,14 +424,14 @@ pub fn tag_judged(
 pub fn other_judged(row: &[u32; 5], names: &[u8], programs: usize) -> bool
     ensures { λ r. ⌜ r ≡ otherJudged (now (names .entry)) programs (now (row .entry)) ⌝ }
 {
-    if wide(row[0]) > programs {
+    if numbers::wide(row[OTHER_SCOPE]) > programs {
         return false;
     }
-    if !name_judged(names, row[1], row[2]) {
+    if !name_judged(names, row[OTHER_NAME_START], row[OTHER_NAME_LENGTH]) {
         return false;
     }
-    if !fits16(row[4]) {
+    if !fits16(row[OTHER_TYPE]) {
         return false;
     }
-    row[3] != 0
+    row[OTHER_ID] != 0
 }

@@ -26,7 +26,7 @@ use Rattle.resolve.specs.Answers.{Targets}
 use Rattle.resolve.specs.declared.Resolved.{Resolved}
 use Rattle.resolve.specs.declared.Resolved.the-variants.{Found, Turned}
 use Rattle.resolve.proofs.Answering.{found-aimed}
-use Rattle.tags.proofs.Lengths.{read-any-lengths}
+use Rattle.reads.proofs.Lengths.{read-any-lengths}
 use Rattle.writes.specs.Storing.{Stores}
 use Rattle.writes.proofs.Lengths.{write-any-lengths, masked-any-lengths}
 use Rattle.services.specs.Answers.{Answers, OnPath}

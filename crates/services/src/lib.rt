@@ -1,5 +1,10 @@
 // Which service answers a request that is no envelope: items 9 to 20 of document 01, in their order.
 use cip::Status;
+use cip::codes::ATTRIBUTE_LIST;
+use cip::codes::ROUTER_CLASS;
+use cip::codes::SYMBOL_CLASS;
+use cip::codes::SYMBOL_PAGE;
+use cip::codes::TEMPLATE_CLASS;
 use model::Flags;
 use path::Object;
 
@@ -19,18 +24,6 @@ ghost use Rattle.path.specs.Paths.{tagPathFrom, ObjectAt};
 ghost use Rattle.model.specs.Tables.{tablesOf, flagsOf};
 ghost use Rattle.services.specs.Answers.{OnPath};
 ghost use Rattle.services.specs.Services.{ownOf, objectIs};
-
-/// The classes that a path's object may have.
-const ROUTER_CLASS: u32 = 0x02;
-
-const SYMBOL_CLASS: u32 = 0x6B;
-
-const TEMPLATE_CLASS: u32 = 0x6C;
-
-/// The services that are no tag's.
-const ATTRIBUTE_LIST: u8 = 0x03;
-
-const SYMBOL_PAGE: u8 = 0x55;
 
 /// An object's own service, and its instance.
 pub enum Own {
@@ -60,7 +53,7 @@ fn own_service(o: Object, service: u8, micro800: bool) -> Own
         if service == ATTRIBUTE_LIST {
             return Own::StructureList(instance);
         }
-        if service == targets::READ {
+        if service == cip::codes::READ {
             return Own::Template(instance);
         }
         return Own::Nothing;
@@ -74,15 +67,15 @@ fn refuse_other(o: Object, service: u8, limit: usize, buf: &mut [u8]) -> usize
     ensures { λ r. ⌜ Laid limit (capped service limit (otherwise service (objectIs o))) (now (buf .entry)) r (now (buf .exit)) ⌝ }
 {
     let Object::Of(class, _, _) = o else {
-        return listing::replies::refuse(service, Status::PathUnknown, limit, buf);
+        return cip::replies::refuse(service, Status::PathUnknown, limit, buf);
     };
     if class == ROUTER_CLASS {
-        return listing::replies::refuse(service, Status::NotSupported, limit, buf);
+        return cip::replies::refuse(service, Status::NotSupported, limit, buf);
     }
     if class == TEMPLATE_CLASS {
-        return listing::replies::refuse(service, Status::NotSupported, limit, buf);
+        return cip::replies::refuse(service, Status::NotSupported, limit, buf);
     }
-    listing::replies::refuse(service, Status::PathUnknown, limit, buf)
+    cip::replies::refuse(service, Status::PathUnknown, limit, buf)
 }
 
 /// Items 14 to 18: a tag service on a tag path.

@@ -1,4 +1,9 @@
 // Items 14 to 18: the services of a tag, from its path to tag memory.
+use cip::codes::READ;
+use cip::codes::READ_FRAGMENTED;
+use cip::codes::WRITE;
+use cip::codes::WRITE_FRAGMENTED;
+use cip::codes::WRITE_MASKED;
 use model::Flags;
 use model::Target;
 use resolve::Resolved;
@@ -15,16 +20,6 @@ ghost use Rattle.definition.specs.Answer.{isRead, isWrite, isTagService, tagSer
 ghost use Rattle.model.specs.Tables.{tablesOf, flagsOf, targetOf, Aimed};
 ghost use Rattle.services.specs.Answers.{Answers, OnPath};
 ghost use Rattle.services.specs.Services.{onFound};
-
-pub const READ: u8 = 0x4C;
-
-const READ_FRAGMENTED: u8 = 0x52;
-
-const WRITE: u8 = 0x4D;
-
-const WRITE_FRAGMENTED: u8 = 0x53;
-
-const WRITE_MASKED: u8 = 0x4E;
 
 fn is_read(service: u8) -> bool
     ensures { λ r. ⌜ r ≡ isRead service ⌝ }
@@ -72,7 +67,7 @@ fn serve(
         (now (buf .entry)) r (now (buf .exit)) (now (memory .exit)) ⌝ }
 {
     if is_read(service) {
-        return tags::reads::read(structures, templates, memory, service, g, body, limit, buf);
+        return reads::read(structures, templates, memory, service, g, body, limit, buf);
     }
     if service == WRITE_MASKED {
         let status = writes::masks::masked_write(memory, g, body);

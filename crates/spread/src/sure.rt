@@ -1,5 +1,15 @@
 // Whether each two symbols pass the tests of two rows, by sorting: names by a number of each, IDs, and bytes.
 // Where they seem not to, a symbol is named that is worth comparing with each behind it: nothing is proved of which.
+use cip::numbers;
+use model::columns::OTHER_ID;
+use model::columns::OTHER_NAME_LENGTH;
+use model::columns::OTHER_NAME_START;
+use model::columns::OTHER_SCOPE;
+use model::columns::TAG_ID;
+use model::columns::TAG_NAME_LENGTH;
+use model::columns::TAG_NAME_START;
+use model::columns::TAG_OFFSET;
+use model::columns::TAG_SCOPE;
 use rows::row;
 ghost use mathlib.Core.Path.{_≡_};
 ghost use mathlib.Core.Bool.{true};
@@ -35,23 +45,11 @@ fn mixed(h: usize, b: u8) -> usize
     (h * 65599 + lowered(b)) % 0x8000_0000_0000
 }
 
-fn wide(x: u32) -> usize
-    ensures { λ r. ⌜ (r ≡ x) × (r < 4294967296) ⌝ }
-{
-    x as usize
-}
-
-fn long(x: u64) -> usize
-    ensures { λ r. ⌜ r ≡ x ⌝ }
-{
-    x as usize
-}
-
 /// A number of a scope and a name, the same for names that agree.
 fn name_key(scope: u32, name: &[u8]) -> usize
     ensures { λ r. ⌜ (r ≡ nameKey scope (now (name .entry))) × (r < 140737488355328) ⌝ }
 {
-    let mut h = wide(scope);
+    let mut h = numbers::wide(scope);
     let mut i = 0;
     while i < name.len() {
         h = mixed(h, name[i]);
@@ -63,13 +61,19 @@ fn name_key(scope: u32, name: &[u8]) -> usize
 fn tag_key(row: &[u32; 12], tag_names: &[u8]) -> usize
     ensures { λ r. ⌜ (r ≡ tagKey (now («tag_names» .entry)) (now (row .entry))) × (r < 140737488355328) ⌝ }
 {
-    name_key(row[0], model::lookup::part_of(tag_names, row[1], row[2]))
+    name_key(
+        row[TAG_SCOPE],
+        model::lookup::part_of(tag_names, row[TAG_NAME_START], row[TAG_NAME_LENGTH]),
+    )
 }
 
 fn other_key(row: &[u32; 5], names: &[u8]) -> usize
     ensures { λ r. ⌜ (r ≡ otherKey (now (names .entry)) (now (row .entry))) × (r < 140737488355328) ⌝ }
 {
-    name_key(row[0], model::lookup::part_of(names, row[1], row[2]))
+    name_key(
+        row[OTHER_SCOPE],
+        model::lookup::part_of(names, row[OTHER_NAME_START], row[OTHER_NAME_LENGTH]),
+    )
 }
 
 /// Of a tag its number's two places; of another symbol the point between them.
@@ -98,7 +102,7 @@ fn name_span(
 fn id_places(scope: u32, id: u32) -> [usize; 2]
     ensures { λ r. ⌜ (getD r 0 0 ≡ id * 32 + scope % 32) × (getD r 1 0 ≡ id * 32 + scope % 32 + 1) ⌝ }
 {
-    let k = wide(id) * 32 + wide(scope) % 32;
+    let k = numbers::wide(id) * 32 + numbers::wide(scope) % 32;
     [k, k + 1]
 }
 
@@ -108,16 +112,19 @@ fn id_span(tags: &[[u32; 12]], others: &[[u32; 5]], k: usize) -> [usize; 2]
         × (getD r 1 0 ≡ ofSymbol idLast idLast (now (tags .entry)) (now (others .entry)) k) ⌝ }
 {
     if k < tags.len() {
-        return id_places(tags[k][0], tags[k][3]);
+        return id_places(tags[k][TAG_SCOPE], tags[k][TAG_ID]);
     }
     let j = k - tags.len();
-    id_places(others[j][0], others[j][3])
+    id_places(others[j][OTHER_SCOPE], others[j][OTHER_ID])
 }
 
 fn byte_span(row: &[u32; 12], structures: &[[u32; 10]]) -> [usize; 2]
     ensures { λ r. ⌜ (getD r 0 0 ≡ tagOffset (now (row .entry))) × (getD r 1 0 ≡ endIn (now (structures .entry)) (now (row .entry))) ⌝ }
 {
-    [wide(row[11]), long(row::tag_end(row, structures))]
+    [
+        numbers::wide(row[TAG_OFFSET]),
+        numbers::wide64(row::tag_end(row, structures)),
+    ]
 }
 
 fn name_spans(

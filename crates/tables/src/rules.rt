@@ -1,4 +1,35 @@
 // The tests of item 4 by their place in the definition's list, which docs/RULES.md has too: which rows each looks at, and whether it holds of them.
+use model::columns::MEMBER_ACCESS;
+use model::columns::MEMBER_BIT;
+use model::columns::MEMBER_HIDDEN;
+use model::columns::MEMBER_LOCAL;
+use model::columns::MEMBER_NAME_LENGTH;
+use model::columns::MEMBER_NAME_START;
+use model::columns::MEMBER_TYPE;
+use model::columns::OTHER_ID;
+use model::columns::OTHER_NAME_LENGTH;
+use model::columns::OTHER_NAME_START;
+use model::columns::OTHER_SCOPE;
+use model::columns::OTHER_TYPE;
+use model::columns::PROGRAM_NAME_LENGTH;
+use model::columns::PROGRAM_NAME_START;
+use model::columns::STRUCTURE_AOI;
+use model::columns::STRUCTURE_FIRST_MEMBER;
+use model::columns::STRUCTURE_HANDLE;
+use model::columns::STRUCTURE_MEMBERS;
+use model::columns::STRUCTURE_NAME_LENGTH;
+use model::columns::STRUCTURE_NAME_START;
+use model::columns::STRUCTURE_SIZE;
+use model::columns::STRUCTURE_TEMPLATE;
+use model::columns::TAG_ACCESS;
+use model::columns::TAG_ALIAS;
+use model::columns::TAG_ID;
+use model::columns::TAG_NAME_LENGTH;
+use model::columns::TAG_NAME_START;
+use model::columns::TAG_SCOPE;
+use model::columns::TAG_TYPE;
+use model::columns::TEMPLATE_LENGTH;
+use model::columns::TEMPLATE_START;
 ghost use mathlib.Core.Path.{_≡_};
 ghost use mathlib.Core.List.{[]};
 ghost use Prim.Native.Nat.{_+_, _<_, min};
@@ -6,8 +37,8 @@ ghost use lib.ListN.{length};
 ghost use Rattle.definition.specs.Breach.{structureRules, memberRules, programRules, tagRules, otherRules, testAt};
 ghost use Rattle.model.specs.Tables.{tablesOf};
 ghost use Rattle.tables.specs.Rules.{ruleAt, tableAt, otherTableAt, countIn, limitAt, passesAt, clashAt, breachOf, TellsAt};
+use cip::numbers::wide;
 use model::lookup::part_of;
-use model::lookup::wide;
 use rows::pair;
 use rows::row;
 
@@ -286,15 +317,23 @@ fn structure_passes(
     ensures { λ r. ⌜ r ≡ passesAt (structureRules (now (names .entry)) members templates) n (now (row .entry)) ⌝ }
 {
     match n {
-        0 => row::within(row[0], row[1], names.len()),
-        1 => row::name_length(part_of(names, row[0], row[1])),
-        2 => row::name_bytes(part_of(names, row[0], row[1])),
-        3 => row::fits16(row[2]),
-        4 => row::fits16(row[3]),
-        5 => row::within(row[5], row[6], members),
-        6 => row[7] <= 1,
-        7 => row::size_fits(row[4]),
-        8 => row::within(row[8], row[9], templates),
+        0 => row::within(
+            row[STRUCTURE_NAME_START],
+            row[STRUCTURE_NAME_LENGTH],
+            names.len(),
+        ),
+        1 => row::name_length(part_of(
+            names,
+            row[STRUCTURE_NAME_START],
+            row[STRUCTURE_NAME_LENGTH],
+        )),
+        2 => row::name_bytes(part_of(names, row[STRUCTURE_NAME_START], row[STRUCTURE_NAME_LENGTH])),
+        3 => row::fits16(row[STRUCTURE_TEMPLATE]),
+        4 => row::fits16(row[STRUCTURE_HANDLE]),
+        5 => row::within(row[STRUCTURE_FIRST_MEMBER], row[STRUCTURE_MEMBERS], members),
+        6 => row[STRUCTURE_AOI] <= 1,
+        7 => row::size_fits(row[STRUCTURE_SIZE]),
+        8 => row::within(row[TEMPLATE_START], row[TEMPLATE_LENGTH], templates),
         _ => true,
     }
 }
@@ -303,14 +342,14 @@ fn member_passes(n: usize, row: &[u32; 9], names: &[u8], structures: usize) -> b
     ensures { λ r. ⌜ r ≡ passesAt (memberRules (now (names .entry)) structures) n (now (row .entry)) ⌝ }
 {
     match n {
-        0 => row::within(row[0], row[1], names.len()),
-        1 => row::name_length(part_of(names, row[0], row[1])),
-        2 => row::name_bytes(part_of(names, row[0], row[1])),
-        3 => row::is_type(structures, row[2]),
-        4 => row[6] <= 1,
-        5 => row[7] <= 1,
-        6 => row[8] <= 3,
-        7 => row[5] <= 8,
+        0 => row::within(row[MEMBER_NAME_START], row[MEMBER_NAME_LENGTH], names.len()),
+        1 => row::name_length(part_of(names, row[MEMBER_NAME_START], row[MEMBER_NAME_LENGTH])),
+        2 => row::name_bytes(part_of(names, row[MEMBER_NAME_START], row[MEMBER_NAME_LENGTH])),
+        3 => row::is_type(structures, row[MEMBER_TYPE]),
+        4 => row[MEMBER_HIDDEN] <= 1,
+        5 => row[MEMBER_LOCAL] <= 1,
+        6 => row[MEMBER_ACCESS] <= 3,
+        7 => row[MEMBER_BIT] <= 8,
         _ => true,
     }
 }
@@ -319,9 +358,13 @@ fn program_passes(n: usize, row: &[u32; 2], names: &[u8]) -> bool
     ensures { λ r. ⌜ r ≡ passesAt (programRules (now (names .entry))) n (now (row .entry)) ⌝ }
 {
     match n {
-        0 => row::within(row[0], row[1], names.len()),
-        1 => row::name_length(part_of(names, row[0], row[1])),
-        2 => row::name_bytes(part_of(names, row[0], row[1])),
+        0 => row::within(
+            row[PROGRAM_NAME_START],
+            row[PROGRAM_NAME_LENGTH],
+            names.len(),
+        ),
+        1 => row::name_length(part_of(names, row[PROGRAM_NAME_START], row[PROGRAM_NAME_LENGTH])),
+        2 => row::name_bytes(part_of(names, row[PROGRAM_NAME_START], row[PROGRAM_NAME_LENGTH])),
         _ => true,
     }
 }
@@ -337,14 +380,14 @@ fn tag_passes(
     ensures { λ r. ⌜ r ≡ passesAt (tagRules (now (structures .entry)) (now («tag_names» .entry)) programs memory) n (now (row .entry)) ⌝ }
 {
     match n {
-        0 => row::within(row[1], row[2], tag_names.len()),
-        1 => row::name_length(part_of(tag_names, row[1], row[2])),
-        2 => row::name_bytes(part_of(tag_names, row[1], row[2])),
-        3 => wide(row[0]) <= programs,
-        4 => row[10] <= 1,
-        5 => row[9] <= 3,
-        6 => row[3] != 0,
-        7 => row::is_type(structures.len(), row[4]),
+        0 => row::within(row[TAG_NAME_START], row[TAG_NAME_LENGTH], tag_names.len()),
+        1 => row::name_length(part_of(tag_names, row[TAG_NAME_START], row[TAG_NAME_LENGTH])),
+        2 => row::name_bytes(part_of(tag_names, row[TAG_NAME_START], row[TAG_NAME_LENGTH])),
+        3 => wide(row[TAG_SCOPE]) <= programs,
+        4 => row[TAG_ALIAS] <= 1,
+        5 => row[TAG_ACCESS] <= 3,
+        6 => row[TAG_ID] != 0,
+        7 => row::is_type(structures.len(), row[TAG_TYPE]),
         8 => row::lengths_first(row),
         9 => row::elements_fit(row),
         10 => row::tag_within(row, structures, memory),
@@ -356,12 +399,12 @@ fn other_passes(n: usize, row: &[u32; 5], names: &[u8], programs: usize) -> bool
     ensures { λ r. ⌜ r ≡ passesAt (otherRules (now (names .entry)) programs) n (now (row .entry)) ⌝ }
 {
     match n {
-        0 => row::within(row[1], row[2], names.len()),
-        1 => row::name_length(part_of(names, row[1], row[2])),
-        2 => row::name_bytes(part_of(names, row[1], row[2])),
-        3 => wide(row[0]) <= programs,
-        4 => row::fits16(row[4]),
-        5 => row[3] != 0,
+        0 => row::within(row[OTHER_NAME_START], row[OTHER_NAME_LENGTH], names.len()),
+        1 => row::name_length(part_of(names, row[OTHER_NAME_START], row[OTHER_NAME_LENGTH])),
+        2 => row::name_bytes(part_of(names, row[OTHER_NAME_START], row[OTHER_NAME_LENGTH])),
+        3 => wide(row[OTHER_SCOPE]) <= programs,
+        4 => row::fits16(row[OTHER_TYPE]),
+        5 => row[OTHER_ID] != 0,
         _ => true,
     }
 }
@@ -400,13 +443,23 @@ fn clash_holds(
         ⌜ r ≡ clashAt t n .holds i j ⌝ }
 {
     match n {
-        0 => row::is_type(i, members[j][2]),
-        1 => row::member_inside(&members[j], structures, structures[i][4]),
+        0 => row::is_type(i, members[j][MEMBER_TYPE]),
+        1 => row::member_inside(&members[j], structures, structures[i][STRUCTURE_SIZE]),
         2 => pair::program_pair(&programs[i], &programs[j], names),
         3 => pair::tag_names_differ(&tags[i], &tags[j], tag_names),
         4 => pair::other_names_differ(&tags[i], &others[j], tag_names, names),
-        5 => pair::ids_differ(tags[i][0], tags[i][3], tags[j][0], tags[j][3]),
-        6 => pair::ids_differ(tags[i][0], tags[i][3], others[j][0], others[j][3]),
+        5 => pair::ids_differ(
+            tags[i][TAG_SCOPE],
+            tags[i][TAG_ID],
+            tags[j][TAG_SCOPE],
+            tags[j][TAG_ID],
+        ),
+        6 => pair::ids_differ(
+            tags[i][TAG_SCOPE],
+            tags[i][TAG_ID],
+            others[j][OTHER_SCOPE],
+            others[j][OTHER_ID],
+        ),
         7 => pair::other_pair(&others[i], &others[j]),
         8 => pair::bytes_apart(&tags[i], &tags[j], structures),
         _ => true,
@@ -559,7 +612,11 @@ pub fn span_of(
 {
     let other = other_table_of(n);
     if other == STRUCTURE_ROWS {
-        return members_of(structures[i][5], structures[i][6], members.len());
+        return members_of(
+            structures[i][STRUCTURE_FIRST_MEMBER],
+            structures[i][STRUCTURE_MEMBERS],
+            members.len(),
+        );
     }
     let table = table_of(n);
     let upto = count_of(

@@ -1,7 +1,7 @@
 // The name of a row: where it stands in its store, and how it is shown.
 use crate::out;
+use cip::numbers::wide;
 use model::lookup::part_of;
-use model::lookup::wide;
 
 /// A longer name is cut here, so that a wrong length does not fill the screen.
 const SHOWN: usize = 40;

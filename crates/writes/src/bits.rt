@@ -1,9 +1,9 @@
 // A write of one bit of a byte.
 use crate::values::Fields;
 use cip::Status;
+use cip::codes::BOOL;
 use model::Target;
-use model::types::BOOL;
-use tags::bits::bit_value;
+use reads::bits::bit_value;
 ghost use mathlib.Core.Path.{_≡_};
 ghost use mathlib.Core.List.{[]};
 ghost use Prim.Native.Nat.{_<_};

@@ -1,7 +1,7 @@
 // Masked writes (0x4E): OR first, then AND, byte by byte at any width.
 use cip::Status;
 use model::Target;
-use tags::bits::NO_BIT;
+use model::columns::NO_BIT;
 ghost use mathlib.Core.Path.{_≡_};
 ghost use mathlib.Core.List.{[]};
 ghost use Prim.Native.Nat.{_+_, _≤_};
@@ -41,7 +41,7 @@ fn takes_mask(g: Target, size: usize) -> bool
         return false;
     }
     if model::types::has_bits(g.ty) {
-        return model::lookup::wide(model::types::atomic_size(g.ty)) == size;
+        return cip::numbers::wide(model::types::atomic_size(g.ty)) == size;
     }
     false
 }
@@ -54,7 +54,7 @@ pub fn masked_write(memory: &mut [u8], g: Target, body: &[u8]) -> Status
     if body.len() < 2 {
         return Status::TooShort;
     }
-    let size = tags::wide16(cip::u16_at(body, 0));
+    let size = cip::numbers::wide16(cip::u16_at(body, 0));
     let end = 2 + 2 * size;
     if body.len() < end {
         return Status::TooShort;

@@ -1,8 +1,11 @@
 // Writes, plain (0x4D) and fragmented (0x53): the fields, a bit, a value. A write that is refused stores nothing.
 use cip::Status;
+use cip::codes::STRUCTURE_CODE;
+use cip::codes::WRITE_FRAGMENTED;
+use cip::numbers;
 use model::Target;
+use model::columns::NO_BIT;
 use model::types::FIRST_STRUCTURE;
-use tags::bits::NO_BIT;
 ghost use mathlib.Core.Path.{_≡_};
 ghost use mathlib.Core.List.{[]};
 ghost use Prim.Native.Nat.{_+_, _≤_};
@@ -10,12 +13,6 @@ ghost use lib.ListN.{length, drop};
 ghost use Rattle.definition.specs.Write.{offsetSize, typeSize, fieldsSize, fieldsOf, writePart, writeValue, writeStored};
 ghost use Rattle.model.specs.Tables.{targetOf, Aimed};
 ghost use Rattle.writes.specs.Storing.{Stores, fieldsWith, writeOffset, typeIs};
-
-/// The service of a write that brings an offset.
-const WRITE_FRAGMENTED: u8 = 0x53;
-
-/// The type that says that a structure's handle follows.
-const STRUCTURE_CODE: u32 = 0x02A0;
 
 /// A write's fields, the value behind them aside.
 pub struct Fields {
@@ -25,18 +22,12 @@ pub struct Fields {
     pub offset: usize,
 }
 
-fn code_of(x: u16) -> u32
-    ensures { λ r. ⌜ r ≡ x ⌝ }
-{
-    x as u32
-}
-
 /// The bytes of type and handle.
 fn type_size(body: &[u8]) -> usize
     requires { ⌜ 2 ≤ length (now body) ⌝ }
     ensures { λ r. ⌜ r ≡ typeSize (now (body .entry)) ⌝ }
 {
-    if code_of(cip::u16_at(body, 0)) == STRUCTURE_CODE {
+    if numbers::word16(cip::u16_at(body, 0)) == STRUCTURE_CODE {
         return 4;
     }
     2
@@ -62,7 +53,7 @@ fn offset_at(service: u8, body: &[u8], at: usize) -> usize
     ensures { λ r. ⌜ r ≡ writeOffset service (now (body .entry)) at ⌝ }
 {
     if service == WRITE_FRAGMENTED {
-        return model::lookup::wide(cip::u32_at(body, at));
+        return cip::numbers::wide(cip::u32_at(body, at));
     }
     0
 }
@@ -72,9 +63,9 @@ fn fields_of(service: u8, body: &[u8]) -> Fields
     ensures { λ r. ⌜ fieldsWith r (drop (fieldsSize service (now (body .entry))) (now (body .entry))) ≡ fieldsOf service (now (body .entry)) ⌝ }
 {
     let at = type_size(body);
-    let ty = code_of(cip::u16_at(body, 0));
-    let handle = code_of(cip::u16_at(body, 2));
-    let elements = tags::wide16(cip::u16_at(body, at));
+    let ty = numbers::word16(cip::u16_at(body, 0));
+    let handle = numbers::word16(cip::u16_at(body, 2));
+    let elements = cip::numbers::wide16(cip::u16_at(body, at));
     let offset = offset_at(service, body, at + 2);
     Fields {
         ty: ty,

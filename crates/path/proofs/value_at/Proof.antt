@@ -12,7 +12,7 @@ returns-2 : tie.Need-returns-2
 returns-2 c = search chain
 
 returns-3 : tie.Need-returns-3
-returns-3 c = let e = c .wide16 .ensures ∙ c .before .u16-at .ensures in search chain
+returns-3 c = let e = c .word16 .ensures ∙ c .before .u16-at .ensures in search chain
 
 returns-4 : tie.Need-returns-4
 returns-4 c = search chain

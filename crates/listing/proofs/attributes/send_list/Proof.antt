@@ -9,11 +9,11 @@ returns c =
     let back = c .before .before in let finish = back .finish in
     let back = back .before .before .before .before in let put-list = back .put-list in
     let back = back .before .before .before .before in let put-u16 = back .put-u16 in
-    let word-of = back .before .word-of in
+    let low16-size = back .before .low16-size in
     let back = back .before .before .before .before .before in let put-header = back .put-header in
     let start = back .before .before .before .before in
     list-sent (start .args .limit) (start .args .service) (start .args .o) (start .args .body .now) _ (start .args .n) _
-    _ _ _ _ _ _ _ (start .pre .1) (start .pre .3) (start .pre .2) (put-header .ensures) (word-of .ensures)
+    _ _ _ _ _ _ _ (start .pre .1) (start .pre .3) (start .pre .2) (put-header .ensures) (low16-size .ensures)
     (put-u16 .ensures) (put-list .ensures .0) (put-list .ensures .1) (finish .ensures .0) (finish .ensures .1)
 
 pub send-list-spec : {M : Type 1} → statement M

@@ -22,11 +22,11 @@ copy-into-requires c κs =
 returns : tie.Need-returns
 returns c =
     let back = c .before .before .before .before .before .before in let put-u16 = back .put-u16 in
-    let word-of = back .before .word-of in
+    let low16-size = back .before .low16-size in
     let if1 = back .before .before .before .if1 in
     let start = back .before .before .before .before .before .before in
     name-written (start .args .name .now) (start .args .s) (start .args .number) _ _ _ _ _ (if1 .taken)
-    (word-of .ensures) (put-u16 .ensures) (c .before .before .copy-into .ensures) (start .pre)
+    (low16-size .ensures) (put-u16 .ensures) (c .before .before .copy-into .ensures) (start .pre)
 
 put-value-requires : tie.Need-put-value-requires
 put-value-requires c κs =

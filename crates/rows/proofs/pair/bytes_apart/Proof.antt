@@ -9,14 +9,14 @@ returns : tie.Need-returns
 unfolding apart
 returns c =
     let tag-end = c .before .before .before .tag-end in
-    rw (← tag-end .ensures, ← c .before .long .ensures) (search (eithers, tests))
+    rw (← tag-end .ensures, ← c .before .long .ensures .0) (search (eithers, tests))
 
 returns-2 : tie.Need-returns-2
 unfolding apart
 returns-2 c =
     let long = c .before .before .before .before .long in
     let tag-end = c .before .before .before .before .before .before .tag-end in
-    rw (← tag-end .ensures, ← c .before .before .tag-end2 .ensures, ← long .ensures, ← c .long2 .ensures)
+    rw (← tag-end .ensures, ← c .before .before .tag-end2 .ensures, ← long .ensures .0, ← c .long2 .ensures .0)
     (search (eithers, tests))
 
 pub bytes-apart-spec : {M : Type 1} → statement M

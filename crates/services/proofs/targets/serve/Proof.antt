@@ -1,5 +1,5 @@
 -- Read, masked write or write, tested in the definition's order; of a write the status alone is the reply.
-use Rattle.tags.proofs.Aiming.{aimed-atomic}
+use Rattle.reads.proofs.Aiming.{aimed-atomic}
 use Rattle.services.proofs.Serving.{serving}
 use borrow.Author.Needs.{needs}
 use Rattle.services.proofs.targets.serve.Statement.{statement}

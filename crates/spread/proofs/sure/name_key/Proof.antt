@@ -16,7 +16,7 @@ abbrev μ-loop : tie.MeasureT-loop
 μ-loop scope name h₀ i₀ h i = length name - i
 
 loop-holds : tie.Need-loop-holds Inv-loop μ-loop
-loop-holds c = (search needs, search needs, rw (c .wide .ensures .0) refl)
+loop-holds c = (search needs, search needs, rw (c .wide .ensures) refl)
 
 loop-again : tie.Need-loop-again Inv-loop μ-loop
 loop-again c = (

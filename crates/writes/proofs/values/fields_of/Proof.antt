@@ -14,15 +14,15 @@ u16-at-requires-2 c κs =
 returns : tie.Need-returns
 unfolding fieldsOf
 returns c =
-    let code-of2 = c .before .before .before .code-of2 in
+    let word162 = c .before .before .before .word162 in
     let u16-at2 = c .before .before .before .before .u16-at2 in
-    let code-of = c .before .before .before .before .before .code-of in
+    let word16 = c .before .before .before .before .before .word16 in
     let u16-at = c .before .before .before .before .before .before .u16-at in
     let type-size = c .before .before .before .before .before .before .before .type-size in
     rw (
-      code-of .ensures,
+      word16 .ensures,
       u16-at .ensures,
-      code-of2 .ensures,
+      word162 .ensures,
       u16-at2 .ensures,
       c .before .wide16 .ensures,
       c .before .before .u16-at3 .ensures,

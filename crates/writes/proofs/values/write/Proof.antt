@@ -1,6 +1,6 @@
 -- A body too short for any fields is also too short for its own; then a bit or a value decides as in the definition.
 use native.Mathlib.Omega.{arith}
-use Rattle.tags.proofs.Aiming.{aimed-first}
+use Rattle.reads.proofs.Aiming.{aimed-first}
 use Rattle.writes.proofs.Storing.{body-short, fields-short, writes-bit, writes-value}
 use borrow.Author.Needs.{needs}
 use Rattle.writes.proofs.values.write.Statement.{statement}

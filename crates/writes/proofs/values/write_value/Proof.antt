@@ -3,7 +3,7 @@ use mathlib.Core.Path.{refl}
 use native.Mathlib.Omega.{arith}
 use Rattle.laws.proofs.Chain.{chain, pick-yes-by, pick-no-by}
 use Rattle.definition.specs.Write.{writeValue, typeMatches}
-use Rattle.tags.proofs.Aiming.{aimed-inside}
+use Rattle.reads.proofs.Aiming.{aimed-inside}
 use Rattle.writes.proofs.Storing.{refuses, puts-part}
 use borrow.Author.Needs.{needs}
 use Rattle.writes.proofs.values.write_value.Statement.{statement}

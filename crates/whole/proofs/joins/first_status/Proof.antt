@@ -1,0 +1,14 @@
+-- The status is the third byte of the reply that lies in the buffer; a read changes no memory.
+use Rattle.whole.proofs.Joining.{status-first}
+use borrow.Author.Needs.{needs}
+use Rattle.whole.proofs.joins.first_status.Statement.{statement}
+use Rattle.whole.proofs.joins.first_status.Tie as tie
+
+returns : tie.Need-returns
+returns c =
+    let send-read = c .before .before .before .before .before .send-read in
+    status-first _ _ _ _ _ _ _ _ _ _ (send-read .ensures)
+
+pub first-status-spec : {M : Type 1} → statement M
+first-status-spec =
+    tie.close (tie.spec (λ c κs. search needs) (λ c. search needs) (λ c. search needs) (λ c. search needs) returns)

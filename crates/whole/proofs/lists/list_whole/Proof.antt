@@ -1,0 +1,103 @@
+-- The definition's refusals in its order; what is left is askable.
+use Rattle.whole.proofs.Outcomes.{list-entered}
+use mathlib.Core.Path.{refl, sym, ap, _∙_}
+use mathlib.Core.Bool.{not}
+use native.Mathlib.Omega.{arith}
+use lib.ListN.{length}
+use borrow.Author.Tests.{lt-ltb, le-ltb, not-false}
+use Rattle.laws.proofs.Chain.{chain, by-call}
+use Rattle.definition.specs.Reply.{room}
+use Rattle.whole.specs.Lists.{wholeList}
+use borrow.Author.Needs.{needs}
+use Rattle.whole.proofs.lists.list_whole.Statement.{statement}
+use Rattle.whole.proofs.lists.list_whole.Tie as tie
+
+returns : tie.Need-returns
+unfolding wholeList
+returns c = let s = ap not (c .before .is-askable .ensures) in (search (chain, by-call), refl)
+
+returns-2 : tie.Need-returns-2
+unfolding wholeList
+returns-2 c = let s = ap not (c .before .before .is-askable .ensures) in (search (chain, by-call), refl)
+
+returns-3 : tie.Need-returns-3
+unfolding wholeList
+returns-3 c =
+    let is-askable = c .before .before .before .before .is-askable in
+    let args = c .before .before .before .before .before .before .before .before .before .before .before .before .before
+    .args in
+    let s = ap not (is-askable .ensures) in
+    let b = lt-ltb (length (args .buf .now)) (room (args .limit))
+    (omega (arith, c .before .room-of .ensures, c .if3 .taken)) in
+    (search (chain, by-call), refl)
+
+returns-4 : tie.Need-returns-4
+unfolding wholeList
+returns-4 c =
+    let if3 = c .before .before .before .if3 in
+    let room-of = c .before .before .before .before .room-of in
+    let is-askable = c .before .before .before .before .before .before .before .is-askable in
+    let args = c .before .before .before .before .before .before .before .before .before .before .before .before .before
+    .before .before .before .args in
+    let s = ap not (is-askable .ensures) in
+    let b = le-ltb (length (args .buf .now)) (room (args .limit)) (omega (arith, room-of .ensures, if3 .left)) in
+    let v = ap not (c .before .valid .ensures) in
+    (search (chain, by-call), refl)
+
+list-askable-requires : tie.Need-list-askable-requires
+list-askable-requires c κs =
+    let if4 = c .before .before .before .if4 in
+    let valid = c .before .before .before .before .valid in
+    let if3 = c .before .before .before .before .before .before .if3 in
+    let room-of = c .before .before .before .before .before .before .before .room-of in
+    let if2 = c .before .before .before .before .before .before .before .before .if2 in
+    let if1 = c .before .before .before .before .before .before .before .before .before .if1 in
+    let is-askable = c .before .before .before .before .before .before .before .before .before .before .is-askable in
+    record {
+      askable = sym (is-askable .ensures) ∙ not-false _ (if1 .left);
+      limit-fits = if2 .left;
+      has-room = omega (arith, room-of .ensures, if3 .left);
+      tables = sym (valid .ensures) ∙ not-false _ (if4 .left);
+    }
+
+returns-5 : tie.Need-returns-5
+returns-5 c =
+    let list-askable = c .before .before .before .before .before .before .list-askable in
+    let if4 = c .before .before .before .before .before .before .before .before .before .before .if4 in
+    let valid = c .before .before .before .before .before .before .before .before .before .before .before .valid in
+    let if3 = c .before .before .before .before .before .before .before .before .before .before .before .before .before
+    .if3 in
+    let room-of = c .before .before .before .before .before .before .before .before .before .before .before .before
+    .before .before .room-of in
+    let if2 = c .before .before .before .before .before .before .before .before .before .before .before .before .before
+    .before .before .if2 in
+    let if1 = c .before .before .before .before .before .before .before .before .before .before .before .before .before
+    .before .before .before .if1 in
+    let is-askable = c .before .before .before .before .before .before .before .before .before .before .before .before
+    .before .before .before .before .before .is-askable in (
+      list-entered _ _ _ _ (record {
+        askable = sym (is-askable .ensures) ∙ not-false _ (if1 .left);
+        limit-fits = if2 .left;
+        has-room = omega (arith, room-of .ensures, if3 .left);
+        tables = sym (valid .ensures) ∙ not-false _ (if4 .left);
+      }) (list-askable .ensures .0),
+      list-askable .ensures .1,
+    )
+
+pub list-whole-spec : {M : Type 1} → statement M
+list-whole-spec =
+    tie.close
+    (tie.spec
+    (λ c κs. search needs)
+    returns
+    returns-2
+    (λ c κs. search needs)
+    returns-3
+    (λ c κs. search needs)
+    (λ c. search needs)
+    returns-4
+    list-askable-requires
+    (λ c. search needs)
+    (λ c. search needs)
+    (λ c. search needs)
+    returns-5)

@@ -1,0 +1,20 @@
+-- The status is the third byte of the reply that lies in the buffer; a page changes no memory.
+use native.Mathlib.Omega.{arith}
+use Rattle.whole.proofs.Asking.{askable-short, list-status}
+use borrow.Author.Needs.{needs}
+use Rattle.whole.proofs.pages.first_page.Statement.{statement}
+use Rattle.whole.proofs.pages.first_page.Tie as tie
+
+returns : tie.Need-returns
+returns c =
+    let send-list = c .before .before .before .before .before .send-list in
+    let args = c .before .before .before .before .before .before .before .before .before .before .before .before .before
+    .before .before .args in
+    let pre = c .before .before .before .before .before .before .before .before .before .before .before .before .before
+    .before .before .pre in
+    list-status _ _ _ _ _ _ _ (askable-short (args .program .now) (args .attributes .now) (pre .askable) .0)
+    (omega arith) _ _ _ _ (send-list .ensures)
+
+pub first-page-spec : {M : Type 1} → statement M
+first-page-spec =
+    tie.close (tie.spec (λ c κs. search needs) (λ c. search needs) (λ c. search needs) (λ c. search needs) returns)

@@ -1,0 +1,102 @@
+-- The definition's refusals in its order; what is left is sendable.
+use mathlib.Core.Path.{refl, sym, ap, _∙_}
+use mathlib.Core.Bool.{not}
+use native.Mathlib.Omega.{arith}
+use lib.ListN.{length}
+use borrow.Author.Tests.{lt-ltb, le-ltb, not-false}
+use Rattle.laws.proofs.Chain.{chain, by-call}
+use Rattle.definition.specs.Reply.{room}
+use Rattle.whole.specs.Whole.{wholeRead}
+use Rattle.whole.proofs.Deciding.{read-entered}
+use borrow.Author.Needs.{needs}
+use Rattle.whole.proofs.read_whole.Statement.{statement}
+use Rattle.whole.proofs.read_whole.Tie as tie
+
+returns : tie.Need-returns
+unfolding wholeRead
+returns c = let s = ap not (c .before .is-sendable .ensures) in (search (chain, by-call), refl)
+
+returns-2 : tie.Need-returns-2
+unfolding wholeRead
+returns-2 c = let s = ap not (c .before .before .is-sendable .ensures) in (search (chain, by-call), refl)
+
+returns-3 : tie.Need-returns-3
+unfolding wholeRead
+returns-3 c =
+    let is-sendable = c .before .before .before .before .is-sendable in
+    let args = c .before .before .before .before .before .before .before .before .before .before .before .before .args in
+    let s = ap not (is-sendable .ensures) in
+    let b = lt-ltb (length (args .buf .now)) (room (args .limit))
+    (omega (arith, c .before .room-of .ensures, c .if3 .taken)) in
+    (search (chain, by-call), refl)
+
+returns-4 : tie.Need-returns-4
+unfolding wholeRead
+returns-4 c =
+    let if3 = c .before .before .before .if3 in
+    let room-of = c .before .before .before .before .room-of in
+    let is-sendable = c .before .before .before .before .before .before .before .is-sendable in
+    let args = c .before .before .before .before .before .before .before .before .before .before .before .before .before
+    .before .before .args in
+    let s = ap not (is-sendable .ensures) in
+    let b = le-ltb (length (args .buf .now)) (room (args .limit)) (omega (arith, room-of .ensures, if3 .left)) in
+    let v = ap not (c .before .valid .ensures) in
+    (search (chain, by-call), refl)
+
+read-sendable-requires : tie.Need-read-sendable-requires
+read-sendable-requires c κs =
+    let if4 = c .before .before .before .if4 in
+    let valid = c .before .before .before .before .valid in
+    let if3 = c .before .before .before .before .before .before .if3 in
+    let room-of = c .before .before .before .before .before .before .before .room-of in
+    let if2 = c .before .before .before .before .before .before .before .before .if2 in
+    let if1 = c .before .before .before .before .before .before .before .before .before .if1 in
+    let is-sendable = c .before .before .before .before .before .before .before .before .before .before .is-sendable in
+    record {
+      sendable = sym (is-sendable .ensures) ∙ not-false _ (if1 .left);
+      limit-fits = if2 .left;
+      has-room = omega (arith, room-of .ensures, if3 .left);
+      tables = sym (valid .ensures) ∙ not-false _ (if4 .left);
+    }
+
+returns-5 : tie.Need-returns-5
+returns-5 c =
+    let read-sendable = c .before .before .before .before .before .before .read-sendable in
+    let if4 = c .before .before .before .before .before .before .before .before .before .before .if4 in
+    let valid = c .before .before .before .before .before .before .before .before .before .before .before .valid in
+    let if3 = c .before .before .before .before .before .before .before .before .before .before .before .before .before
+    .if3 in
+    let room-of = c .before .before .before .before .before .before .before .before .before .before .before .before
+    .before .before .room-of in
+    let if2 = c .before .before .before .before .before .before .before .before .before .before .before .before .before
+    .before .before .if2 in
+    let if1 = c .before .before .before .before .before .before .before .before .before .before .before .before .before
+    .before .before .before .if1 in
+    let is-sendable = c .before .before .before .before .before .before .before .before .before .before .before .before
+    .before .before .before .before .before .is-sendable in (
+      read-entered _ _ _ _ _ (record {
+        sendable = sym (is-sendable .ensures) ∙ not-false _ (if1 .left);
+        limit-fits = if2 .left;
+        has-room = omega (arith, room-of .ensures, if3 .left);
+        tables = sym (valid .ensures) ∙ not-false _ (if4 .left);
+      }) (read-sendable .ensures .0),
+      read-sendable .ensures .1,
+    )
+
+pub read-whole-spec : {M : Type 1} → statement M
+read-whole-spec =
+    tie.close
+    (tie.spec
+    (λ c κs. search needs)
+    returns
+    returns-2
+    (λ c κs. search needs)
+    returns-3
+    (λ c κs. search needs)
+    (λ c. search needs)
+    returns-4
+    read-sendable-requires
+    (λ c. search needs)
+    (λ c. search needs)
+    (λ c. search needs)
+    returns-5)

@@ -1,0 +1,93 @@
+-- The definition's cases in its order: no segments, no tag path, no target; a target that is found lies in tag memory.
+use native.Mathlib.Omega.{arith}
+use lib.ListN.{length}
+use Rattle.whole.proofs.Sizing.{check-some, size-cut, size-no-tag, size-turned, size-aimed, size-found}
+use borrow.Author.Needs.{needs}
+use Rattle.whole.proofs.sizes.selected_size.Statement.{statement}
+use Rattle.whole.proofs.sizes.selected_size.Tie as tie
+
+enum-told : tie.Need-enum-told
+enum-told c = search needs
+
+returns : tie.Need-returns
+returns c = size-cut _ _ _ _ _ _ (c .before .before .check-path .ensures) (c .enum-told2 .given .1)
+
+is-tag-path-requires : tie.Need-is-tag-path-requires
+is-tag-path-requires c κs =
+    let args = c .before .before .before .before .before .before .before .before .args in
+    check-some (args .path .now) _ _ (c .before .before .check-path .ensures) (c .enum-told .given .1)
+
+tag-target-requires : tie.Need-tag-target-requires
+tag-target-requires c κs =
+    let back = c .before .before .before .before in let check-path = back .check-path in
+    let start = back .before .before .before .before .before .before in (
+      check-some (start .args .path .now) _ _ (check-path .ensures) (c .before .before .enum-told .given .1),
+      record {
+        others = start .args .others .now;
+        templates = start .args .templates .now;
+        memory = length (start .args .memory .now);
+        ok = start .pre;
+      },
+    )
+
+granted-size-requires : tie.Need-granted-size-requires
+granted-size-requires c κs =
+    let a = (let back = c .before .before .before .before in
+    let tag-target = back .tag-target in
+    let back = back .before in let if1 = back .if1 in
+    let is-tag-path = back .before .is-tag-path in
+    let back = back .before .before in let enum-told = back .enum-told in
+    let check-path = back .before .before .check-path in
+    let start = back .before .before .before .before .before .before .before .before in
+    size-aimed _ _ _ _ _ _ _ _ (start .args .memory .now) (start .args .path .now) _ (start .args .elements) _
+    (check-path .ensures) _ (enum-told .given .1) _ (is-tag-path .ensures) (if1 .taken) _ (tag-target .ensures) _
+    (c .before .before .g .given .1) (start .pre)) in
+    (a .some-elements, omega (arith, a .in-memory, a .small-memory))
+
+returns-2 : tie.Need-returns-2
+returns-2 c =
+    let back = c .before .before .before in let g = back .g in
+    let back = back .before .before in let tag-target = back .tag-target in
+    let back = back .before in let if1 = back .if1 in
+    let is-tag-path = back .before .is-tag-path in
+    let back = back .before .before in let enum-told = back .enum-told in
+    let check-path = back .before .before .check-path in
+    let start = back .before .before .before .before .before .before .before .before in
+    size-found _ _ _ _ _ _ _ _ (start .args .memory .now) (start .args .path .now) _ (start .args .elements) _
+    (check-path .ensures) _ (enum-told .given .1) _ (is-tag-path .ensures) (if1 .taken) _ (tag-target .ensures) _
+    (g .given .1) (start .pre) _ _ (c .before .wide16 .ensures) (c .granted-size .ensures)
+
+returns-3 : tie.Need-returns-3
+returns-3 c =
+    let back = c .before .before .before in let if1 = back .if1 in
+    let is-tag-path = back .before .is-tag-path in
+    let back = back .before .before in let enum-told = back .enum-told in
+    let check-path = back .before .before .check-path in
+    let args = back .before .before .before .before .before .before .before .before .args in
+    size-turned _ _ _ _ _ _ _ _ (args .memory .now) (args .path .now) _ (args .elements) _ (check-path .ensures) _
+    (enum-told .given .1) _ (is-tag-path .ensures) (if1 .taken) _ (c .before .before .tag-target .ensures) _
+    (c .enum-told3 .given .1)
+
+returns-4 : tie.Need-returns-4
+returns-4 c =
+    let check-path = c .before .before .before .before .check-path in
+    size-no-tag _ _ _ _ _ _ (check-path .ensures) _ (c .before .before .enum-told .given .1) _
+    (c .before .is-tag-path .ensures) (c .if1 .left)
+
+pub selected-size-spec : {M : Type 1} → statement M
+selected-size-spec =
+    tie.close
+    (tie.spec
+    (λ c κs. search needs)
+    enum-told
+    (λ c. search needs)
+    returns
+    is-tag-path-requires
+    tag-target-requires
+    (λ c. search needs)
+    (λ c κs. search needs)
+    granted-size-requires
+    returns-2
+    (λ c. search needs)
+    returns-3
+    returns-4)
