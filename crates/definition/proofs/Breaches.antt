@@ -15,7 +15,7 @@ use Rattle.laws.proofs.Chain.{by-test, clash}
 use Rattle.laws.proofs.First.{first-all, first-none, isNone, none-is, first-every}
 use Rattle.laws.proofs.Tests.{equal-tests, every-at, every-by, everyFrom-at, everyFrom-by, pairs-two, pairs-by, every-part-at, every-part-by, every-part, regroup, both-assoc, both-implied, every-both, every-append, from-both, from-every}
 use Rattle.definition.specs.Tables.{Tables, Row, structureName, structureSize, firstMember, memberCount, templateStart, templateLength, structureAt, membersIn, memberName, memberType, memberBit, noBit, memberAccess, programName, tagName, tagId, tagAccess, otherName, otherId}
-use Rattle.definition.specs.Valid.{valid, encoded, t1, t2, t3, t4, t5, t6, stored, isType, isName, structureEncoded, memberEncoded, tagEncoded, otherEncoded, memberFits, structureFits, tagFits, endIn, apart, tagNamesDiffer, otherNamesDiffer, programNamesDiffer, idsDiffer}
+use Rattle.definition.specs.Valid.{valid, encoded, t1, t2, t3, t4, t5, t6, nameStored, isType, isName, structureEncoded, memberEncoded, tagEncoded, otherEncoded, memberFits, structureFits, tagFits, endIn, apart, tagNamesDiffer, otherNamesDiffer, programNamesDiffer, idsDiffer}
 use Rattle.definition.specs.Breach.{structuresTable, membersTable, programsTable, tagsTable, othersTable, Test, rowAt, most, RowRule, each, two, tagsOthers, memberOf, noTest, counts, nameLength, nameBytes, structureRules, memberRules, programRules, tagRules, otherRules, hasElements, endsWithin, clashes, toldOf, rowBreach, testBreach, tests, breach}
 use Rattle.definition.specs.Told.{None-exactly-where-valid}
 
@@ -107,7 +107,7 @@ member-row : (names : List ℕ) (structures : ℕ) (r : Row) → every (λ x. x 
 unfolding every memberRules nameLength nameBytes isName memberEncoded
 member-row names structures r = equal-tests _ _ (λ e. search regroup depth 20) (λ e. search regroup depth 20)
 
-program-row : (names : List ℕ) (r : Row) → every (λ x. x .passes r) (programRules names) ≡ both (stored 0 1 (length names) r) (isName (programName names r))
+program-row : (names : List ℕ) (r : Row) → every (λ x. x .passes r) (programRules names) ≡ both (nameStored (length names) r) (isName (programName names r))
 unfolding every programRules nameLength nameBytes isName
 program-row names r = equal-tests _ _ (λ e. search regroup depth 20) (λ e. search regroup depth 20)
 

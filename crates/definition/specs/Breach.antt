@@ -11,7 +11,7 @@ use Rattle.laws.specs.Tests.{every}
 use Rattle.laws.specs.First.{firstOf}
 use Rattle.definition.specs.Tables.{Tables, Row, structureName, templateId, handle, structureSize, firstMember, memberCount, isAoi, templateStart, templateLength, structureAt, memberName, memberType, memberLength, memberOffset, memberBit, noBit, isHidden, isLocal, memberAccess, programName, tagScope, tagName, tagId, tagType, tagLengths, lengthsOf, tagElements, tagAccess, isAlias, otherScope, otherName, otherId, otherType}
 use Rattle.definition.specs.Types.{sizeIn}
-use Rattle.definition.specs.Valid.{stored, isMark, isType, is16, tagNamesDiffer, otherNamesDiffer, programNamesDiffer, idsDiffer, product, zerosLast, isBoolArray, endIn, apart}
+use Rattle.definition.specs.Valid.{nameStored, symbolNameStored, isMark, isType, is16, tagNamesDiffer, otherNamesDiffer, programNamesDiffer, idsDiffer, product, zerosLast, isBoolArray, endIn, apart}
 
 -- ---- the tables and the two stores that T1 bounds, by number
 
@@ -153,7 +153,7 @@ nameBytes name = every (λ b. both (leb 0x20 b) (leb b 0x7E)) name
 
 unfoldable pub structureRules : (names : List ℕ) (members templates : ℕ) → List RowRule
 structureRules names members templates =
-    rowRule 1 (stored 0 1 (length names))
+    rowRule 1 (nameStored (length names))
     ∷ rowRule 201 (λ r. nameLength (structureName names r))
     ∷ rowRule 202 (λ r. nameBytes (structureName names r))
     ∷ rowRule 4 (λ r. is16 (templateId r))
@@ -166,7 +166,7 @@ structureRules names members templates =
 
 unfoldable pub memberRules : (names : List ℕ) (structures : ℕ) → List RowRule
 memberRules names structures =
-    rowRule 1 (stored 0 1 (length names))
+    rowRule 1 (nameStored (length names))
     ∷ rowRule 201 (λ r. nameLength (memberName names r))
     ∷ rowRule 202 (λ r. nameBytes (memberName names r))
     ∷ rowRule 3 (λ r. isType structures (memberType r))
@@ -178,7 +178,7 @@ memberRules names structures =
 
 unfoldable pub programRules : (names : List ℕ) → List RowRule
 programRules names =
-    rowRule 1 (stored 0 1 (length names))
+    rowRule 1 (nameStored (length names))
     ∷ rowRule 201 (λ r. nameLength (programName names r))
     ∷ rowRule 202 (λ r. nameBytes (programName names r))
     ∷ []
@@ -189,7 +189,7 @@ hasElements r = either (eqb (tagElements r) (product (lengthsOf r))) (isBoolArra
 
 unfoldable pub tagRules : (structures : List Row) (tagNames : List ℕ) (programs memory : ℕ) → List RowRule
 tagRules structures tagNames programs memory =
-    rowRule 1 (stored 1 2 (length tagNames))
+    rowRule 1 (symbolNameStored (length tagNames))
     ∷ rowRule 201 (λ r. nameLength (tagName tagNames r))
     ∷ rowRule 202 (λ r. nameBytes (tagName tagNames r))
     ∷ rowRule 2 (λ r. leb (tagScope r) programs)
@@ -204,7 +204,7 @@ tagRules structures tagNames programs memory =
 
 unfoldable pub otherRules : (names : List ℕ) (programs : ℕ) → List RowRule
 otherRules names programs =
-    rowRule 1 (stored 1 2 (length names))
+    rowRule 1 (symbolNameStored (length names))
     ∷ rowRule 201 (λ r. nameLength (otherName names r))
     ∷ rowRule 202 (λ r. nameBytes (otherName names r))
     ∷ rowRule 2 (λ r. leb (otherScope r) programs)

@@ -1,3 +1,4 @@
+-- What the controller does, in the order of document 01: this is what a reader has to believe.
 pub mod Bytes
 pub mod Reply
 pub mod Segment
@@ -7,8 +8,6 @@ pub mod Tables
 pub mod Types
 pub mod Lookup
 pub mod Valid
-pub mod Breach
-pub mod Told
 pub mod Resolve
 pub mod Access
 pub mod Fragment
@@ -22,6 +21,10 @@ pub mod Symbols
 pub mod Envelope
 pub mod Answer
 pub mod Entry
+-- Which rule broken tables are told, and what is promised of it and of all the above.
+pub mod Breach
+pub mod Told
+pub mod Promises
+-- For proofs and examples: they define nothing of the controller.
 pub mod Computed
 pub mod Pallet
-pub mod Promises

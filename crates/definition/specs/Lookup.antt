@@ -6,11 +6,11 @@ use mathlib.Core.Option.{Option, none, some}
 use Prim.Native.Nat.{ℕ}
 use lib.Dec.{eqb}
 use lib.ListN.{getD}
-use Rattle.laws.specs.Pick.{pick, both}
+use Rattle.laws.specs.Pick.{pick, _&_}
 use Rattle.laws.specs.Scan.{scan}
 use Rattle.laws.specs.Tests.{some-of}
 use Rattle.definition.specs.Names.{sameName, isProgramName, afterPrefix}
-use Rattle.definition.specs.Tables.{Tables, Row, templateId, membersOf, memberName, isHidden, isLocal, programName, tagScope, tagName, tagId}
+use Rattle.definition.specs.Tables.{Tables, Row, templateId, membersOf, memberName, isHidden, isLocal, programName, tagScope, tagName, symbolScope, symbolId}
 
 -- the index of the first row that passes
 abbrev pub first : (Row → Bool) → List Row → Option ℕ
@@ -31,14 +31,14 @@ unfoldable pub programOf : Tables → (name : List ℕ) → Option ℕ
 programOf t name = pick (isProgramName name) (programNamed t (afterPrefix name)) none
 
 unfoldable pub tagIn : (tags : List Row) (tagNames : List ℕ) (scope : ℕ) (name : List ℕ) → Option ℕ
-tagIn tags tagNames scope name = first (λ r. both (eqb (tagScope r) scope) (sameName (tagName tagNames r) name)) tags
+tagIn tags tagNames scope name = first (λ r. eqb (tagScope r) scope & sameName (tagName tagNames r) name) tags
 
 abbrev pub tagNamed : Tables → (scope : ℕ) (name : List ℕ) → Option ℕ
 tagNamed t scope name = tagIn (t .tags) (t .tagNames) scope name
 
--- scope and ID stand at the same words of a tag and of another symbol
+-- of tags, or of other symbols
 unfoldable pub idIn : (rows : List Row) (scope id : ℕ) → Option ℕ
-idIn rows scope id = first (λ r. both (eqb (tagScope r) scope) (eqb (tagId r) id)) rows
+idIn rows scope id = first (λ r. eqb (symbolScope r) scope & eqb (symbolId r) id) rows
 
 abbrev pub tagWithId : Tables → (scope id : ℕ) → Option ℕ
 tagWithId t scope id = idIn (t .tags) scope id
@@ -48,7 +48,7 @@ otherWithId t scope id = idIn (t .others) scope id
 
 -- of some members that are not hidden, the first of that name
 unfoldable pub memberIn : (members : List Row) (names name : List ℕ) → Option ℕ
-memberIn members names name = first (λ r. both (not (marked (isHidden r))) (sameName (memberName names r) name)) members
+memberIn members names name = first (λ r. not (marked (isHidden r)) & sameName (memberName names r) name) members
 
 -- its place among the structure's members
 abbrev pub memberNamed : Tables → (structure : Row) (name : List ℕ) → Option ℕ

@@ -91,7 +91,7 @@ segmentAt path at = let b = getD path at 0 in byKind (kindOf b) path (at + 1) b
 
 -- ---- the segments of a whole path
 
--- [01]
+-- no segment ends at 0, so 0 says that there is none; the port that stands for `cut` below is never used, since `items` has no list then [01]
 abbrev pub nextOf : Step → ℕ
 nextOf (step s next) = next
 nextOf cut = 0

@@ -2,7 +2,7 @@
 -- All of it is document 01's alone; how tables are laid out in rows is this project's choice (docs/DECISIONS.md).
 use mathlib.Core.Bool.{Bool, not}
 use mathlib.Core.List.{List, [], _∷_}
-use Prim.Native.Nat.{ℕ}
+use Prim.Native.Nat.{ℕ, _+_}
 use lib.Dec.{eqb}
 use lib.ListN.{getD, take, drop}
 use Rattle.laws.specs.Pick.{pick, both}
@@ -30,6 +30,10 @@ field k r = getD r k 0
 -- the name whose start and length stand at words a and b
 abbrev pub nameAt : (a b : ℕ) (store : List ℕ) → Row → List ℕ
 nameAt a b store r = part store (field a r) (field b r)
+
+-- where the name of a structure, a member or a program ends in its store
+abbrev pub endOfName : Row → ℕ
+endOfName r = field 0 r + field 1 r
 
 abbrev pub structureName : (names : List ℕ) → Row → List ℕ
 structureName names r = nameAt 0 1 names r
@@ -101,22 +105,43 @@ memberAccess r = field 8 r
 abbrev pub programName : (names : List ℕ) → Row → List ℕ
 programName names r = nameAt 0 1 names r
 
--- ---- a tag: scope 0 is the controller, k + 1 program k; three lengths, nonzero first
+-- ---- a symbol: scope 0 is the controller, k + 1 program k; scope and ID stand at the same words of a tag and of another symbol
+
+abbrev pub symbolScope : Row → ℕ
+symbolScope r = field 0 r
+
+abbrev pub symbolId : Row → ℕ
+symbolId r = field 3 r
+
+-- where the name of a symbol ends in its store
+abbrev pub endOfSymbolName : Row → ℕ
+endOfSymbolName r = field 1 r + field 2 r
+
+-- ---- a tag: three lengths, nonzero first
 
 abbrev pub tagScope : Row → ℕ
-tagScope r = field 0 r
+tagScope r = symbolScope r
 
 abbrev pub tagName : (tagNames : List ℕ) → Row → List ℕ
 tagName tagNames r = nameAt 1 2 tagNames r
 
 abbrev pub tagId : Row → ℕ
-tagId r = field 3 r
+tagId r = symbolId r
 
 abbrev pub tagType : Row → ℕ
 tagType r = field 4 r
 
 abbrev pub tagLengths : Row → List ℕ
 tagLengths r = take 3 (drop 5 r)
+
+abbrev pub firstLength : Row → ℕ
+firstLength r = field 5 r
+
+abbrev pub secondLength : Row → ℕ
+secondLength r = field 6 r
+
+abbrev pub thirdLength : Row → ℕ
+thirdLength r = field 7 r
 
 -- the nonzero ones, which stand first
 abbrev pub nonzero : List ℕ → List ℕ
@@ -141,13 +166,13 @@ tagOffset r = field 11 r
 -- ---- another symbol
 
 abbrev pub otherScope : Row → ℕ
-otherScope r = field 0 r
+otherScope r = symbolScope r
 
 abbrev pub otherName : (names : List ℕ) → Row → List ℕ
 otherName names r = nameAt 1 2 names r
 
 abbrev pub otherId : Row → ℕ
-otherId r = field 3 r
+otherId r = symbolId r
 
 abbrev pub otherType : Row → ℕ
 otherType r = field 4 r

@@ -9,7 +9,7 @@ use lib.Dec.{eqb}
 use lib.ListN.{length, getD}
 use Rattle.laws.specs.Pick.{pick}
 use Rattle.definition.specs.Names.{sameName}
-use Rattle.definition.specs.Tables.{Tables, Row, field, structureName, templateId, handle, structureSize, firstMember, memberCount, isAoi, templateStart, templateLength, memberType, memberLength, memberOffset, memberBit, isHidden, isLocal, memberAccess, tagScope, tagName, tagId, tagType, lengthsOf, tagElements, tagAccess, isAlias, tagOffset, otherName, otherType}
+use Rattle.definition.specs.Tables.{Tables, Row, endOfName, endOfSymbolName, firstLength, secondLength, thirdLength, structureName, templateId, handle, structureSize, firstMember, memberCount, isAoi, templateStart, templateLength, memberType, memberLength, memberOffset, memberBit, isHidden, isLocal, memberAccess, symbolScope, symbolId, tagName, tagType, lengthsOf, tagElements, tagAccess, isAlias, tagOffset, otherName, otherType}
 use Rattle.definition.specs.Types.{isAtomic, sizeIn}
 use Rattle.definition.specs.Valid.{valid, product, isBoolArray, endIn}
 use Rattle.definition.specs.Breach.{Breach, rowAt, structuresTable, membersTable, programsTable, tagsTable, othersTable, tagMemory, templateStore, breach}
@@ -43,7 +43,7 @@ nameOf t table r =
 -- where a row's name ends in its store
 abbrev pub nameEnd : (table : ℕ) → Row → ℕ
 nameEnd table r =
-    pick (eqb table tagsTable) (field 1 r + field 2 r) (pick (eqb table othersTable) (field 1 r + field 2 r) (field 0 r + field 1 r))
+    pick (eqb table tagsTable) (endOfSymbolName r) (pick (eqb table othersTable) (endOfSymbolName r) (endOfName r))
 
 abbrev pub accessOf : (table : ℕ) → Row → ℕ
 accessOf table r = pick (eqb table tagsTable) (tagAccess r) (memberAccess r)
@@ -66,7 +66,9 @@ pub record SharedByte (structures : List Row) (a b : Row) : Type 0 where
 
 -- a length of 0 with a length behind it
 abbrev pub ZeroBetween : Row → Type 0
-ZeroBetween r = ((field 5 r ≡ 0) × ((0 < field 6 r) ⊎ (0 < field 7 r))) ⊎ ((field 6 r ≡ 0) × (0 < field 7 r))
+ZeroBetween r =
+    ((firstLength r ≡ 0) × ((0 < secondLength r) ⊎ (0 < thirdLength r)))
+    ⊎ ((secondLength r ≡ 0) × (0 < thirdLength r))
 
 -- ---- what is told is true: of the row r, and of the row s that it clashes with
 
@@ -89,7 +91,7 @@ module _ (t : Tables) (memory : ℕ) (b : Breach) where
     pub stands : b .row < countOf t memory (b .table)
     -- the encoding
     pub name-not-stored : b .rule ≡ 1 → length (storeOf t (b .table)) < nameEnd (b .table) toldRow
-    pub no-such-scope : b .rule ≡ 2 → length (t .programs) < tagScope toldRow
+    pub no-such-scope : b .rule ≡ 2 → length (t .programs) < symbolScope toldRow
     pub member-no-type : b .rule ≡ 3 → NoType (length (t .structures)) (memberType toldRow)
     pub template-id-wide : b .rule ≡ 4 → 65535 < templateId toldRow
     pub handle-wide : b .rule ≡ 5 → 65535 < handle toldRow
@@ -107,10 +109,10 @@ module _ (t : Tables) (memory : ℕ) (b : Breach) where
     pub name-byte : b .rule ≡ 202 → OddByte (nameOf t (b .table) toldRow)
     pub same-name : b .rule ≡ 203
         → (sameName (nameOf t (b .otherTable) clashRow) (nameOf t (b .table) toldRow) ≡ true)
-        × (b .table ≢ programsTable → tagScope clashRow ≡ tagScope toldRow) × Later
+        × (b .table ≢ programsTable → symbolScope clashRow ≡ symbolScope toldRow) × Later
     -- T3
-    pub id-zero : b .rule ≡ 301 → tagId toldRow ≡ 0
-    pub same-id : b .rule ≡ 302 → (tagScope clashRow ≡ tagScope toldRow) × (tagId clashRow ≡ tagId toldRow) × Later
+    pub id-zero : b .rule ≡ 301 → symbolId toldRow ≡ 0
+    pub same-id : b .rule ≡ 302 → (symbolScope clashRow ≡ symbolScope toldRow) × (symbolId clashRow ≡ symbolId toldRow) × Later
     -- T4: a structure's size and template; a member's bit, its type and its place in its structure
     pub structure-size : b .rule ≡ 401 → (structureSize toldRow ≡ 0) ⊎ (65535 < structureSize toldRow)
     pub template-not-stored : b .rule ≡ 402 → length (t .templates) < templateStart toldRow + templateLength toldRow

@@ -5,17 +5,20 @@ use mathlib.Core.List.{List, [], _∷_}
 use Prim.Native.Nat.{ℕ, _+_, _*_, _-_, max}
 use lib.Dec.{ltb, leb, eqb}
 use lib.ListN.{length}
-use Rattle.laws.specs.Pick.{pick, both, either}
+use Rattle.laws.specs.Pick.{pick, _&_, either}
 use Rattle.laws.specs.Tests.{every, everyFrom, pairs}
 use Rattle.definition.specs.Names.{sameName}
-use Rattle.definition.specs.Tables.{Tables, Row, field, structureName, templateId, handle, structureSize, firstMember, memberCount, isAoi, templateStart, templateLength, membersIn, memberName, memberType, memberLength, memberOffset, memberBit, noBit, isHidden, isLocal, memberAccess, programName, tagScope, tagName, tagId, tagType, tagLengths, lengthsOf, tagElements, tagAccess, isAlias, tagOffset, otherScope, otherName, otherId, otherType}
+use Rattle.definition.specs.Tables.{Tables, Row, endOfName, endOfSymbolName, structureName, templateId, handle, structureSize, firstMember, memberCount, isAoi, templateStart, templateLength, membersIn, memberName, memberType, memberLength, memberOffset, memberBit, noBit, isHidden, isLocal, memberAccess, programName, tagScope, tagName, tagId, tagType, tagLengths, firstLength, lengthsOf, tagElements, tagAccess, isAlias, tagOffset, otherScope, otherName, otherId, otherType, symbolScope, symbolId}
 use Rattle.definition.specs.Types.{isAtomic, isStructure, sizeIn, DWORD}
 
 -- ---- the encoding: a row is a record
 
--- a part that starts at word a of a row and is word b long stands in a store of so many bytes
-abbrev pub stored : (a b : ℕ) (store : ℕ) → Row → Bool
-stored a b store r = leb (field a r + field b r) store
+-- a name stands in its store of so many bytes: that of a structure, a member or a program, and that of a symbol
+abbrev pub nameStored : (store : ℕ) → Row → Bool
+nameStored store r = leb (endOfName r) store
+
+abbrev pub symbolNameStored : (store : ℕ) → Row → Bool
+symbolNameStored store r = leb (endOfSymbolName r) store
 
 abbrev pub isMark : ℕ → Bool
 isMark m = leb m 1
@@ -30,89 +33,120 @@ is16 n = leb n 65535
 -- the numbers are those of the bytes of the store of names, and of the rows of another table
 unfoldable pub structureEncoded : (names members : ℕ) → Row → Bool
 structureEncoded names members r =
-    both (stored 0 1 names r) (both (is16 (templateId r)) (both (is16 (handle r))
-    (both (leb (firstMember r + memberCount r) members) (isMark (isAoi r)))))
+    nameStored names r
+    & is16 (templateId r)
+    & is16 (handle r)
+    & leb (firstMember r + memberCount r) members
+    & isMark (isAoi r)
 
 unfoldable pub memberEncoded : (names structures : ℕ) → Row → Bool
 memberEncoded names structures r =
-    both (stored 0 1 names r) (both (isType structures (memberType r)) (both (isMark (isHidden r)) (isMark (isLocal r))))
+    nameStored names r
+    & isType structures (memberType r)
+    & isMark (isHidden r)
+    & isMark (isLocal r)
 
 -- a scope is 0, or k + 1 for program k
 unfoldable pub tagEncoded : (tagNames programs : ℕ) → Row → Bool
-tagEncoded tagNames programs r = both (leb (tagScope r) programs) (both (stored 1 2 tagNames r) (isMark (isAlias r)))
+tagEncoded tagNames programs r =
+    leb (tagScope r) programs
+    & symbolNameStored tagNames r
+    & isMark (isAlias r)
 
 unfoldable pub otherEncoded : (names programs : ℕ) → Row → Bool
-otherEncoded names programs r = both (leb (otherScope r) programs) (both (stored 1 2 names r) (is16 (otherType r)))
+otherEncoded names programs r =
+    leb (otherScope r) programs
+    & symbolNameStored names r
+    & is16 (otherType r)
 
 unfoldable pub encoded : Tables → Bool
 encoded t =
     let names = length (t .names) in
-    both (every (structureEncoded names (length (t .members))) (t .structures))
-    (both (every (memberEncoded names (length (t .structures))) (t .members))
-    (both (every (stored 0 1 names) (t .programs))
-    (both (every (tagEncoded (length (t .tagNames)) (length (t .programs))) (t .tags))
-    (every (otherEncoded names (length (t .programs))) (t .others)))))
+    every (structureEncoded names (length (t .members))) (t .structures)
+    & every (memberEncoded names (length (t .structures))) (t .members)
+    & every (nameStored names) (t .programs)
+    & every (tagEncoded (length (t .tagNames)) (length (t .programs))) (t .tags)
+    & every (otherEncoded names (length (t .programs))) (t .others)
 
 -- ---- T1
 
 unfoldable pub t1 : Tables → (memory : ℕ) → Bool
 t1 t memory =
-    both (leb (length (t .structures)) 64) (both (leb (length (t .members)) 512) (both (leb (length (t .programs)) 16)
-    (both (leb (length (t .tags)) 1024) (both (leb (length (t .others)) 64)
-    (both (leb memory 65536) (both (leb (length (t .templates)) 65536)
-    (both (every (λ r. leb (tagAccess r) 3) (t .tags)) (every (λ r. leb (memberAccess r) 3) (t .members)))))))))
+    leb (length (t .structures)) 64
+    & leb (length (t .members)) 512
+    & leb (length (t .programs)) 16
+    & leb (length (t .tags)) 1024
+    & leb (length (t .others)) 64
+    & leb memory 65536
+    & leb (length (t .templates)) 65536
+    & every (λ r. leb (tagAccess r) 3) (t .tags)
+    & every (λ r. leb (memberAccess r) 3) (t .members)
 
 -- ---- T2
 
 unfoldable pub isName : List ℕ → Bool
-isName name = both (ltb 0 (length name)) (both (leb (length name) 40) (every (λ b. both (leb 0x20 b) (leb b 0x7E)) name))
+isName name =
+    ltb 0 (length name)
+    & leb (length name) 40
+    & every (λ b. leb 0x20 b & leb b 0x7E) name
 
 -- two symbols of one scope have different names
 unfoldable pub tagNamesDiffer : (tagNames : List ℕ) → Row → Row → Bool
-tagNamesDiffer tagNames a b = not (both (eqb (tagScope a) (tagScope b)) (sameName (tagName tagNames a) (tagName tagNames b)))
+tagNamesDiffer tagNames a b = not (eqb (tagScope a) (tagScope b) & sameName (tagName tagNames a) (tagName tagNames b))
 
 unfoldable pub otherNamesDiffer : (tagNames names : List ℕ) → Row → Row → Bool
-otherNamesDiffer tagNames names a b = not (both (eqb (tagScope a) (otherScope b)) (sameName (tagName tagNames a) (otherName names b)))
+otherNamesDiffer tagNames names a b = not (eqb (tagScope a) (otherScope b) & sameName (tagName tagNames a) (otherName names b))
 
 unfoldable pub programNamesDiffer : (names : List ℕ) → Row → Row → Bool
 programNamesDiffer names a b = not (sameName (programName names a) (programName names b))
 
 unfoldable pub t2 : Tables → Bool
 t2 t =
-    both (every (λ r. isName (structureName (t .names) r)) (t .structures)) (both (every (λ r. isName (memberName (t .names) r)) (t .members))
-    (both (every (λ r. isName (programName (t .names) r)) (t .programs)) (both (every (λ r. isName (tagName (t .tagNames) r)) (t .tags))
-    (both (every (λ r. isName (otherName (t .names) r)) (t .others)) (both (pairs (tagNamesDiffer (t .tagNames)) (t .tags))
-    (both (every (λ r. every (otherNamesDiffer (t .tagNames) (t .names) r) (t .others)) (t .tags)) (pairs (programNamesDiffer (t .names)) (t .programs))))))))
+    every (λ r. isName (structureName (t .names) r)) (t .structures)
+    & every (λ r. isName (memberName (t .names) r)) (t .members)
+    & every (λ r. isName (programName (t .names) r)) (t .programs)
+    & every (λ r. isName (tagName (t .tagNames) r)) (t .tags)
+    & every (λ r. isName (otherName (t .names) r)) (t .others)
+    & pairs (tagNamesDiffer (t .tagNames)) (t .tags)
+    & every (λ r. every (otherNamesDiffer (t .tagNames) (t .names) r) (t .others)) (t .tags)
+    & pairs (programNamesDiffer (t .names)) (t .programs)
 
 -- ---- T3
 
--- scope and ID stand at the same words of a tag and of another symbol
+-- two symbols, tags or others, of one scope have different IDs
 unfoldable pub idsDiffer : Row → Row → Bool
-idsDiffer a b = not (both (eqb (tagScope a) (tagScope b)) (eqb (tagId a) (tagId b)))
+idsDiffer a b = not (eqb (symbolScope a) (symbolScope b) & eqb (symbolId a) (symbolId b))
 
 unfoldable pub t3 : Tables → Bool
 t3 t =
-    both (every (λ r. ltb 0 (tagId r)) (t .tags)) (both (every (λ r. ltb 0 (otherId r)) (t .others))
-    (both (pairs idsDiffer (t .tags)) (both (pairs idsDiffer (t .others)) (every (λ r. every (idsDiffer r) (t .others)) (t .tags)))))
+    every (λ r. ltb 0 (tagId r)) (t .tags)
+    & every (λ r. ltb 0 (otherId r)) (t .others)
+    & pairs idsDiffer (t .tags)
+    & pairs idsDiffer (t .others)
+    & every (λ r. every (idsDiffer r) (t .others)) (t .tags)
 
 -- ---- T4
 
 -- all array elements counted, inside its structure; atomic or of an earlier structure; a bit of 0 to 7, or none
 unfoldable pub memberFits : (structures : List Row) (index size : ℕ) → Row → Bool
 memberFits structures i size r =
-    both (isType i (memberType r))
-    (both (leb (memberOffset r + sizeIn structures (memberType r) * max 1 (memberLength r)) size) (leb (memberBit r) noBit))
+    isType i (memberType r)
+    & leb (memberOffset r + sizeIn structures (memberType r) * max 1 (memberLength r)) size
+    & leb (memberBit r) noBit
 
 -- its template is a part of a store of so many bytes
 unfoldable pub structureFits : (structures members : List Row) (templates : ℕ) (index : ℕ) → Row → Bool
 structureFits structures members templates i r =
-    both (ltb 0 (structureSize r)) (both (leb (structureSize r) 65535)
-    (both (leb (templateStart r + templateLength r) templates) (every (memberFits structures i (structureSize r)) (membersIn members r))))
+    ltb 0 (structureSize r)
+    & leb (structureSize r) 65535
+    & leb (templateStart r + templateLength r) templates
+    & every (memberFits structures i (structureSize r)) (membersIn members r)
 
 -- each structure with its index; a member that no structure has is a record too: its bit is 0 to 7, or none
 unfoldable pub t4 : Tables → Bool
 t4 t =
-    both (everyFrom (structureFits (t .structures) (t .members) (length (t .templates))) 0 (t .structures)) (every (λ r. leb (memberBit r) noBit) (t .members))
+    everyFrom (structureFits (t .structures) (t .members) (length (t .templates))) 0 (t .structures)
+    & every (λ r. leb (memberBit r) noBit) (t .members)
 
 -- ---- T5
 
@@ -127,12 +161,15 @@ zerosLast (n ∷ ns) = pick (eqb n 0) (every (λ k. eqb k 0) ns) (zerosLast ns)
 -- a DWORD tag with one length 32k may have k elements
 unfoldable pub isBoolArray : Row → Bool
 isBoolArray r =
-    both (eqb (tagType r) DWORD) (both (eqb (length (lengthsOf r)) 1) (eqb (tagElements r * 32) (field 5 r)))
+    eqb (tagType r) DWORD
+    & eqb (length (lengthsOf r)) 1
+    & eqb (tagElements r * 32) (firstLength r)
 
 unfoldable pub tagFits : (structures : ℕ) → Row → Bool
 tagFits structures r =
-    both (isType structures (tagType r))
-    (both (zerosLast (tagLengths r)) (either (eqb (tagElements r) (product (lengthsOf r))) (isBoolArray r)))
+    isType structures (tagType r)
+    & zerosLast (tagLengths r)
+    & either (eqb (tagElements r) (product (lengthsOf r))) (isBoolArray r)
 
 unfoldable pub t5 : Tables → Bool
 t5 t = every (tagFits (length (t .structures))) (t .tags)
@@ -149,9 +186,18 @@ unfoldable pub apart : (structures : List Row) → Row → Row → Bool
 apart structures a b = either (leb (endIn structures a) (tagOffset b)) (leb (endIn structures b) (tagOffset a))
 
 unfoldable pub t6 : Tables → (memory : ℕ) → Bool
-t6 t memory = both (every (λ r. leb (tagEnd t r) memory) (t .tags)) (pairs (apart (t .structures)) (t .tags))
+t6 t memory =
+    every (λ r. leb (tagEnd t r) memory) (t .tags)
+    & pairs (apart (t .structures)) (t .tags)
 
 -- ---- all of them, for a tag memory of this length
 
 unfoldable pub valid : Tables → (memory : ℕ) → Bool
-valid t memory = both (encoded t) (both (t1 t memory) (both (t2 t) (both (t3 t) (both (t4 t) (both (t5 t) (t6 t memory))))))
+valid t memory =
+    encoded t
+    & t1 t memory
+    & t2 t
+    & t3 t
+    & t4 t
+    & t5 t
+    & t6 t memory

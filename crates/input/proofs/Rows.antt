@@ -41,14 +41,14 @@ no-words src at = refl
 pub to-the-end : {A : Type 0} (f : ℕ → List A) (xs : List A) (i n : ℕ) → take i xs ≡ f i → i ≤ n → n ≤ i → take n xs ≡ f n
 to-the-end f xs i n e h l = let m : i ≡ n = omega arith in rw m at e
 
-pub no-rows : (src : List ℕ) (at width : ℕ) → [] ≡ rowsAt src at width 0
-unfolding rowsAt
-no-rows src at width = refl
-
 -- ---- a table: i of its n rows are read, and there is room for `most`
 
 abbrev pub RowsRead : (src : List ℕ) (at width most n : ℕ) (rows : List (List ℕ)) (i : ℕ) → Type 0
 RowsRead src at width most n rows i = (i ≤ n) × (length rows ≡ most) × (take i rows ≡ rowsAt src at width i)
+
+pub rows-start : (src : List ℕ) (at width most n : ℕ) (rows : List (List ℕ)) → length rows ≡ most → RowsRead src at width most n rows 0
+unfolding rowsAt
+rows-start src at width most n rows e = (omega arith, e, refl)
 
 module _ (src : List ℕ) (at width most n : ℕ) (rows : List (List ℕ)) (i : ℕ) (so-far : RowsRead src at width most n rows i) where
   pub one-row : (row : List ℕ) → i < n → n ≤ most → row ≡ wordsAt src (at + 4 * width * i) width
@@ -63,3 +63,5 @@ module _ (src : List ℕ) (at width most n : ℕ) (rows : List (List ℕ)) (i : 
 
   pub all-rows : n ≤ i → (most ≡ length rows) × (take n rows ≡ rowsAt src at width n)
   all-rows h = (sym (so-far .1), to-the-end (rowsAt src at width) rows i n (so-far .2) (so-far .0) h)
+
+pub ruleset row-turns = (rows-start, one-row)

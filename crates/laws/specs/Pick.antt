@@ -22,3 +22,9 @@ isEmpty (x ∷ xs) = false
 abbrev pub isSome : {A : Type 0} → Option A → Bool
 isSome none = false
 isSome (some x) = true
+
+-- `both` between its tests, for many of them, one a line
+abbrev pub _&_ : Bool → Bool → Bool
+_&_ a b = both a b
+
+infixr 30 _&_

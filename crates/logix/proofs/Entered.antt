@@ -50,5 +50,3 @@ module _ (t : Tables) (f : Flags) (memory request : List ℕ) (limit : ℕ) (buf
         enters-well e r new after h =
             rw (le-ltb 65535 (length request) short, le-ltb 65535 limit small, le-ltb (length buffer) (room limit) (omega arith), ← judged, e)
             (record { outcome-is = h .length-is; buffer-is = h .buffer-is; memory-is = h .memory-is })
-
-pub ruleset entering = (enters-long, enters-large, enters-short, enters-invalid, enters-well)

@@ -1,3 +1,4 @@
 pub mod Cases
 pub mod Due
 pub mod Laws
+pub mod Seeking

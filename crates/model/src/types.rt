@@ -6,6 +6,7 @@ use cip::codes::BOOL;
 use cip::codes::DWORD;
 use cip::codes::LREAL;
 use cip::codes::REAL;
+use cip::numbers;
 ghost use mathlib.Core.Path.{_≡_};
 ghost use mathlib.Core.List.{[]};
 ghost use Prim.Native.Nat.{_+_, _-_, _%_, _≤_, _<_};
@@ -113,12 +114,6 @@ fn structure_template(structures: &[[u32; 10]], i: usize) -> u32
     }
 }
 
-fn low16(x: u32) -> u16
-    ensures { λ r. ⌜ r ≡ x % 65536 ⌝ }
-{
-    (x % 65536) as u16
-}
-
 fn low8(x: u32) -> u8
     requires { ⌜ x < 256 ⌝ }
     ensures { λ r. ⌜ r ≡ x ⌝ }
@@ -141,7 +136,7 @@ pub fn put_type_header(buf: &mut [u8], at: usize, structures: &[[u32; 10]], ty: 
     cip::put_u16(
         buf,
         at + 2,
-        low16(structure_handle(structures, index_of(ty))),
+        numbers::low16(structure_handle(structures, index_of(ty))),
     );
     4
 }

@@ -10,7 +10,7 @@ use Rattle.laws.specs.Pick.{both}
 use Rattle.laws.specs.Tests.{every, everyFrom, pairs}
 use Rattle.laws.proofs.Tests.{equal-tests, both-assoc, regroup, every-both, from-both, from-every, pairs-both}
 use Rattle.definition.specs.Tables.{Tables, Row, structureName, memberName, memberBit, noBit, memberAccess, programName, tagName, tagId, tagAccess, otherName, otherId}
-use Rattle.definition.specs.Valid.{valid, encoded, t1, t2, t3, t4, t5, t6, stored, isName, structureEncoded, memberEncoded, tagEncoded, otherEncoded, structureFits, tagFits, endIn, apart, tagNamesDiffer, otherNamesDiffer, idsDiffer}
+use Rattle.definition.specs.Valid.{valid, encoded, t1, t2, t3, t4, t5, t6, nameStored, isName, structureEncoded, memberEncoded, tagEncoded, otherEncoded, structureFits, tagFits, endIn, apart, tagNamesDiffer, otherNamesDiffer, idsDiffer}
 use Rattle.rows.specs.Judged.{judged, pairsJudged, fewEnough, counts7, nameJudged, structureNamed, structureJudged, memberJudged, programJudged, tagJudged, otherJudged, tagPair, tagOther}
 
 -- ---- a table: what the code judges at once is its rules' tests together
@@ -46,7 +46,7 @@ module _ (names : List ℕ) (n : ℕ) where
       ≡ both (every (otherEncoded (length names) n) rows) (both (every (λ r. isName (otherName names r)) rows) (every (λ r. ltb 0 (otherId r)) rows))
   other-rows rows = ap (λ p. every p rows) (fun-ext other-row) ∙ simp every-both
 
-program-rows : (names : List ℕ) (rows : List Row) → every (programJudged names) rows ≡ both (every (stored 0 1 (length names)) rows) (every (λ r. isName (programName names r)) rows)
+program-rows : (names : List ℕ) (rows : List Row) → every (programJudged names) rows ≡ both (every (nameStored (length names)) rows) (every (λ r. isName (programName names r)) rows)
 unfolding programJudged nameJudged
 program-rows names rows = every-both _ _ rows
 

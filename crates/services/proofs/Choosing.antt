@@ -103,10 +103,6 @@ module _ (structures members programs tags others : List Row) (names tagNames te
     pub plain-by : w ≡ own.Nothing → (after : List ℕ) → By after → Plain after
     plain-by e after h = plain-own after (λ l s. rw e (h .is l s))
 
-pub ruleset choices = (by-page, by-tag, by-other)
-
-pub ruleset plains = (plain-symbols, plain-structures, plain-template, plain-by)
-
 -- ---- the tests themselves
 
 module _ (o : Object) (service : ℕ) (micro800 : Bool) where

@@ -93,5 +93,3 @@ module _ (structures members programs tags others : List Row) (names tagNames te
   tag-aimed g resolved e target =
       found-aimed structures members programs tags others names tagNames templates path f writes g memory ok decodes
       (subst (Targets structures members programs tags names tagNames f writes path) e target)
-
-pub ruleset tag-answers = (tag-turned, tag-found)

@@ -37,6 +37,7 @@ ghost use lib.ListN.{length};
 ghost use Rattle.definition.specs.Breach.{structureRules, memberRules, programRules, tagRules, otherRules, testAt};
 ghost use Rattle.model.specs.Tables.{tablesOf};
 ghost use Rattle.tables.specs.Rules.{ruleAt, tableAt, otherTableAt, countIn, limitAt, passesAt, clashAt, breachOf, TellsAt};
+use cip::numbers;
 use cip::numbers::wide;
 use model::lookup::part_of;
 use rows::pair;
@@ -571,12 +572,6 @@ pub struct Span {
     pub upto: usize,
 }
 
-fn smaller(a: usize, b: usize) -> usize
-    ensures { λ r. ⌜ r ≡ min a b ⌝ }
-{
-    if a < b { a } else { b }
-}
-
 /// A structure's members that stand in a member table of so many rows.
 fn members_of(first: u32, count: u32, members: usize) -> Span
     ensures { λ r. ⌜ (r .from ≡ first) × (r .upto ≡ min (first + count) members) ⌝ }
@@ -584,7 +579,7 @@ fn members_of(first: u32, count: u32, members: usize) -> Span
     let from = wide(first);
     Span {
         from: from,
-        upto: smaller(from + wide(count), members),
+        upto: numbers::smaller(from + wide(count), members),
     }
 }
 

@@ -1,31 +1,18 @@
--- Each row from i + 1 up to j passes, so the test of the rest is the test of all behind i.
-use Prim.Native.Nat.{_≤_, _-_, _+_, _<_}
-use mathlib.Core.Path.{_≡_}
-use lib.ListN.{length, drop, getD}
+-- Each program from i + 1 up to j passes, so the test of the rest is the test of all behind i.
 use mathlib.Core.List.{[]}
-use Rattle.laws.specs.Tests.{every}
-use Rattle.laws.proofs.Loops.{afters}
+use Prim.Native.Nat.{_-_, _+_}
+use lib.ListN.{length, getD}
 use Rattle.definition.specs.Valid.{programNamesDiffer}
+use Rattle.tables.proofs.Apart.{Behind, behinds}
 use borrow.Author.Needs.{needs}
 use Rattle.tables.proofs.program_apart.Statement.{statement}
 use Rattle.tables.proofs.program_apart.Tie as tie
 
 abbrev Inv-loop : tie.InvT-loop
-Inv-loop programs names i j₀ j =
-    (j ≤ length programs) × (i < length programs) × (every (programNamesDiffer names (getD programs i []))
-    (drop j programs) ≡ every (programNamesDiffer names (getD programs i [])) (drop (i + 1) programs))
+Inv-loop programs names i j₀ j = Behind (programNamesDiffer names (getD programs i [])) programs (i + 1) j
 
 abbrev μ-loop : tie.MeasureT-loop
 μ-loop programs names i j₀ j = length programs - j
-
-loop-again : tie.Need-loop-again Inv-loop μ-loop
-loop-again c = (search needs, search needs, search afters)
-
-returns : tie.Need-returns Inv-loop μ-loop
-returns c = search afters
-
-returns-2 : tie.Need-returns-2 Inv-loop μ-loop
-returns-2 c = search afters
 
 pub program-apart-spec : {M : Type 1} → statement M
 program-apart-spec =
@@ -34,7 +21,7 @@ program-apart-spec =
     Inv-loop
     μ-loop
     (λ c. search needs)
-    (λ c. search needs)
+    (λ c. search behinds)
     (λ c. search needs)
     (λ c. search needs)
     (λ c. search needs)
@@ -42,6 +29,6 @@ program-apart-spec =
     (λ c κs. search needs)
     (λ c. search needs)
     (λ c. search needs)
-    loop-again
-    returns
-    returns-2)
+    (λ c. search behinds)
+    (λ c. search behinds)
+    (λ c. search behinds))

@@ -1,28 +1,17 @@
 -- Each program before i passes against those behind it, so the test of the rest is the test of all.
-use Prim.Native.Nat.{_≤_, _-_}
-use mathlib.Core.Path.{_≡_}
-use lib.ListN.{length, drop}
-use Rattle.laws.specs.Tests.{pairs}
-use Rattle.laws.proofs.Loops.{pair-loops}
+use Prim.Native.Nat.{_-_}
+use lib.ListN.{length}
 use Rattle.definition.specs.Valid.{programNamesDiffer}
+use Rattle.tables.proofs.Apart.{Paired, paireds}
 use borrow.Author.Needs.{needs}
 use Rattle.tables.proofs.programs_apart.Statement.{statement}
 use Rattle.tables.proofs.programs_apart.Tie as tie
 
 abbrev Inv-loop : tie.InvT-loop
-Inv-loop programs names i₀ i = (i ≤ length programs) × (pairs (programNamesDiffer names) (drop i programs) ≡ pairs (programNamesDiffer names) programs)
+Inv-loop programs names i₀ i = Paired (programNamesDiffer names) programs i
 
 abbrev μ-loop : tie.MeasureT-loop
 μ-loop programs names i₀ i = length programs - i
-
-loop-again : tie.Need-loop-again Inv-loop μ-loop
-loop-again c = (search needs, search pair-loops)
-
-returns : tie.Need-returns Inv-loop μ-loop
-returns c = search pair-loops
-
-returns-2 : tie.Need-returns-2 Inv-loop μ-loop
-returns-2 c = search pair-loops
 
 pub programs-apart-spec : {M : Type 1} → statement M
 programs-apart-spec =
@@ -34,6 +23,6 @@ programs-apart-spec =
     (λ c κs. search needs)
     (λ c. search needs)
     (λ c. search needs)
-    loop-again
-    returns
-    returns-2)
+    (λ c. search paireds)
+    (λ c. search paireds)
+    (λ c. search paireds))

@@ -1,6 +1,6 @@
 -- Each turn adds the next row behind those that are there.
 use Prim.Native.Nat.{_-_}
-use Rattle.input.proofs.Rows.{RowsRead, no-rows, one-row, all-rows}
+use Rattle.input.proofs.Rows.{RowsRead, row-turns, all-rows}
 use borrow.Author.Needs.{needs}
 use Rattle.input.proofs.image_rows.structures.Statement.{statement}
 use Rattle.input.proofs.image_rows.structures.Tie as tie
@@ -11,26 +11,13 @@ Inv-loop src at n rows₀ i₀ rows i = RowsRead src at 10 64 n rows i
 abbrev μ-loop : tie.MeasureT-loop
 μ-loop src at n rows₀ i₀ rows i = n - i
 
-loop-holds : tie.Need-loop-holds Inv-loop μ-loop
-loop-holds c = (search needs, search needs, no-rows _ _ 10)
-
-loop-again : tie.Need-loop-again Inv-loop μ-loop
-loop-again c =
-    let back = c .before .before .before in let loop-test = back .loop-test in
-    let loop = back .before .loop in
-    let start = back .before .before .before in
-    one-row _ _ 10 64 (start .args .n) _ _ (loop .inv) _ (loop-test .taken) (start .pre .0) (c .before .words .ensures)
-
-returns : tie.Need-returns Inv-loop μ-loop
-returns c = all-rows _ _ 10 64 _ _ _ (c .before .loop .inv) (c .loop-test .left)
-
 pub structures-spec : {M : Type 1} → statement M
 structures-spec =
     tie.close
     (tie.spec
     Inv-loop
     μ-loop
-    loop-holds
+    (λ c. search row-turns)
     (λ c. search needs)
     (λ c. search needs)
     (λ c. search needs)
@@ -39,5 +26,5 @@ structures-spec =
     (λ c. search needs)
     (λ c. search needs)
     (λ c. search needs)
-    loop-again
-    returns)
+    (λ c. search row-turns)
+    (λ c. all-rows _ _ 10 64 _ _ _ (c .before .loop .inv) (c .loop-test .left)))

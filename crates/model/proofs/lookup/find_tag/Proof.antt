@@ -1,34 +1,26 @@
 -- No tag before i has that scope and name, so the search of the rest is the search of all.
-use Prim.Native.Nat.{_≤_, _-_}
-use mathlib.Core.Path.{_≡_}
-use lib.ListN.{length, drop}
-use Rattle.laws.specs.Scan.{scan}
-use Rattle.laws.proofs.Scan.{scans, scan-map}
+use Prim.Native.Nat.{_-_}
+use lib.ListN.{length}
 use Rattle.definition.specs.Lookup.{tagIn}
-use Rattle.model.specs.Rows.{foundOf, tagIs}
-use Rattle.model.specs.declared.lookup.Found.the-variants.{At, Nothing}
+use Rattle.model.specs.Rows.{tagIs}
+use Rattle.model.proofs.Seeking.{Seeking, seeks}
 use borrow.Author.Needs.{needs}
 use Rattle.model.proofs.lookup.find_tag.Statement.{statement}
 use Rattle.model.proofs.lookup.find_tag.Tie as tie
 
 abbrev Inv-loop : tie.InvT-loop
-Inv-loop tags tag-names scope name i₀ i =
-    (i ≤ length tags) ×
-    (scan (tagIs tag-names scope name) At Nothing i (drop i tags) ≡ scan (tagIs tag-names scope name) At Nothing 0 tags)
+Inv-loop tags tag-names scope name i₀ i = Seeking (tagIs tag-names scope name) tags i
 
 abbrev μ-loop : tie.MeasureT-loop
 μ-loop tags tag-names scope name i₀ i = length tags - i
 
 returns : tie.Need-returns Inv-loop μ-loop
 unfolding tagIn
-returns c = rw (scan-map foundOf) (search scans)
-
-loop-again : tie.Need-loop-again Inv-loop μ-loop
-loop-again c = (search needs, search scans)
+returns c = search seeks
 
 returns-2 : tie.Need-returns-2 Inv-loop μ-loop
 unfolding tagIn
-returns-2 c = rw (scan-map foundOf) (search scans)
+returns-2 c = search seeks
 
 pub find-tag-spec : {M : Type 1} → statement M
 find-tag-spec =
@@ -43,5 +35,5 @@ find-tag-spec =
     returns
     (λ c. search needs)
     (λ c. search needs)
-    loop-again
+    (λ c. search seeks)
     returns-2)

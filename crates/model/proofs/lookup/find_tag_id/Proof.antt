@@ -1,32 +1,26 @@
 -- No tag before i has that scope and ID, so the search of the rest is the search of all.
-use Prim.Native.Nat.{_≤_, _-_}
-use mathlib.Core.Path.{_≡_}
-use lib.ListN.{length, drop}
-use Rattle.laws.specs.Scan.{scan}
-use Rattle.laws.proofs.Scan.{scans, scan-map}
+use Prim.Native.Nat.{_-_}
+use lib.ListN.{length}
 use Rattle.definition.specs.Lookup.{idIn}
-use Rattle.model.specs.Rows.{foundOf, idIs}
-use Rattle.model.specs.declared.lookup.Found.the-variants.{At, Nothing}
+use Rattle.model.specs.Rows.{idIs}
+use Rattle.model.proofs.Seeking.{Seeking, seeks}
 use borrow.Author.Needs.{needs}
 use Rattle.model.proofs.lookup.find_tag_id.Statement.{statement}
 use Rattle.model.proofs.lookup.find_tag_id.Tie as tie
 
 abbrev Inv-loop : tie.InvT-loop
-Inv-loop tags scope id i₀ i = (i ≤ length tags) × (scan (idIs scope id) At Nothing i (drop i tags) ≡ scan (idIs scope id) At Nothing 0 tags)
+Inv-loop tags scope id i₀ i = Seeking (idIs scope id) tags i
 
 abbrev μ-loop : tie.MeasureT-loop
 μ-loop tags scope id i₀ i = length tags - i
 
 returns : tie.Need-returns Inv-loop μ-loop
 unfolding idIn
-returns c = rw (scan-map foundOf) (search scans)
-
-loop-again : tie.Need-loop-again Inv-loop μ-loop
-loop-again c = (search needs, search scans)
+returns c = search seeks
 
 returns-2 : tie.Need-returns-2 Inv-loop μ-loop
 unfolding idIn
-returns-2 c = rw (scan-map foundOf) (search scans)
+returns-2 c = search seeks
 
 pub find-tag-id-spec : {M : Type 1} → statement M
 find-tag-id-spec =
@@ -41,5 +35,5 @@ find-tag-id-spec =
     returns
     (λ c. search needs)
     (λ c. search needs)
-    loop-again
+    (λ c. search seeks)
     returns-2)

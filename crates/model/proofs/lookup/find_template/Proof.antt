@@ -1,32 +1,26 @@
 -- No structure before i has that template ID, so the search of the rest is the search of all.
-use Prim.Native.Nat.{_≤_, _-_}
-use mathlib.Core.Path.{_≡_}
-use lib.ListN.{length, drop}
-use Rattle.laws.specs.Scan.{scan}
-use Rattle.laws.proofs.Scan.{scans, scan-map}
+use Prim.Native.Nat.{_-_}
+use lib.ListN.{length}
 use Rattle.definition.specs.Lookup.{templateIn}
-use Rattle.model.specs.Rows.{foundOf, templateIs}
-use Rattle.model.specs.declared.lookup.Found.the-variants.{At, Nothing}
+use Rattle.model.specs.Rows.{templateIs}
+use Rattle.model.proofs.Seeking.{Seeking, seeks}
 use borrow.Author.Needs.{needs}
 use Rattle.model.proofs.lookup.find_template.Statement.{statement}
 use Rattle.model.proofs.lookup.find_template.Tie as tie
 
 abbrev Inv-loop : tie.InvT-loop
-Inv-loop structures id i₀ i = (i ≤ length structures) × (scan (templateIs id) At Nothing i (drop i structures) ≡ scan (templateIs id) At Nothing 0 structures)
+Inv-loop structures id i₀ i = Seeking (templateIs id) structures i
 
 abbrev μ-loop : tie.MeasureT-loop
 μ-loop structures id i₀ i = length structures - i
 
 returns : tie.Need-returns Inv-loop μ-loop
 unfolding templateIn
-returns c = rw (scan-map foundOf) (search scans)
-
-loop-again : tie.Need-loop-again Inv-loop μ-loop
-loop-again c = (search needs, search scans)
+returns c = search seeks
 
 returns-2 : tie.Need-returns-2 Inv-loop μ-loop
 unfolding templateIn
-returns-2 c = rw (scan-map foundOf) (search scans)
+returns-2 c = search seeks
 
 pub find-template-spec : {M : Type 1} → statement M
 find-template-spec =
@@ -41,5 +35,5 @@ find-template-spec =
     returns
     (λ c. search needs)
     (λ c. search needs)
-    loop-again
+    (λ c. search seeks)
     returns-2)
