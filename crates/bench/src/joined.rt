@@ -4,13 +4,13 @@ use crate::tally;
 use crate::tally::Tally;
 
 /// What is asked for until a reply has status 0.
-enum Asked {
+enum Question {
     Rows,
     Symbols,
 }
 
 /// The bytes joined so far: an exchange goes on after status 0x06, ends with status 0, and breaks off otherwise.
-enum Step {
+enum Progress {
     More(usize),
     Done(usize),
     Broken,
@@ -47,10 +47,10 @@ fn last_id(entries: &[u8]) -> u32 {
 }
 
 /// Where the next request starts: a read at the bytes received, a page at the last ID plus one.
-fn next_start(asked: Asked, received: &[u8]) -> u32 {
+fn next_start(asked: Question, received: &[u8]) -> u32 {
     match asked {
-        Asked::Rows => word(received.len()),
-        Asked::Symbols => {
+        Question::Rows => word(received.len()),
+        Question::Symbols => {
             if received.len() == 0 {
                 return 0;
             }
@@ -60,45 +60,45 @@ fn next_start(asked: Asked, received: &[u8]) -> u32 {
 }
 
 /// Joins a reply's data behind the `at` bytes received.
-fn join(joined: &mut [u8], at: usize, status: u8, data: &[u8]) -> Step {
+fn join(joined: &mut [u8], at: usize, status: u8, data: &[u8]) -> Progress {
     if at > joined.len() {
-        return Step::Broken;
+        return Progress::Broken;
     }
     if data.len() > joined.len() - at {
-        return Step::Broken;
+        return Progress::Broken;
     }
     cip::copy_into(joined, at, data);
     match status {
-        0 => Step::Done(at + data.len()),
-        6 => Step::More(at + data.len()),
-        _ => Step::Broken,
+        0 => Progress::Done(at + data.len()),
+        6 => Progress::More(at + data.len()),
+        _ => Progress::Broken,
     }
 }
 
 /// Sends a request and joins what follows the reply's header.
-fn exchange(request: &[u8], limit: usize, header: usize, joined: &mut [u8], at: usize) -> Step {
+fn exchange(request: &[u8], limit: usize, header: usize, joined: &mut [u8], at: usize) -> Progress {
     let mut memory = pallet::MEMORY;
     let mut space = [0xEEu8; 110];
     let n = pallet::send(&mut memory, request, limit, &mut space);
     let reply = tally::first(&space, n);
     if reply.len() < header {
-        return Step::Broken;
+        return Progress::Broken;
     }
     if reply.len() < 4 {
-        return Step::Broken;
+        return Progress::Broken;
     }
     join(joined, at, reply[2], &reply[header..])
 }
 
 /// 0x52 of all `Rows`, or 0x55 of the controller scope's names and types, from a start.
-fn ask(asked: Asked, start: u32, limit: usize, joined: &mut [u8], at: usize) -> Step {
+fn ask(asked: Question, start: u32, limit: usize, joined: &mut [u8], at: usize) -> Progress {
     match asked {
-        Asked::Rows => {
+        Question::Rows => {
             let mut request = *b"\x52\x03\x91\x04Rows\x0A\x00\x00\x00\x00\x00";
             cip::put_u32(&mut request, 10, start);
             exchange(&request, limit, 6, joined, at)
         }
-        Asked::Symbols => {
+        Question::Symbols => {
             let mut request = *b"\x55\x04\x20\x6B\x26\x00\x00\x00\x00\x00\x02\x00\x01\x00\x02\x00";
             cip::put_u32(&mut request, 6, start);
             exchange(&request, limit, 4, joined, at)
@@ -107,19 +107,19 @@ fn ask(asked: Asked, start: u32, limit: usize, joined: &mut [u8], at: usize) -> 
 }
 
 /// Asks until a reply has status 0, at most 64 times; an exchange that breaks off counts no reply.
-fn join_all(asked: Asked, limit: usize, joined: &mut [u8]) -> Joined {
+fn join_all(asked: Question, limit: usize, joined: &mut [u8]) -> Joined {
     let mut at = 0;
     let mut replies = 0;
     while replies < 64 {
         let start = next_start(asked, tally::first(joined, at));
         replies += 1;
         match ask(asked, start, limit, joined, at) {
-            Step::More(n) => at = n,
-            Step::Done(n) => return Joined {
+            Progress::More(n) => at = n,
+            Progress::Done(n) => return Joined {
                 bytes: n,
                 replies: replies,
             },
-            Step::Broken => return Joined {
+            Progress::Broken => return Joined {
                 bytes: 0,
                 replies: 0,
             },
@@ -135,7 +135,7 @@ fn join_all(asked: Asked, limit: usize, joined: &mut [u8]) -> Joined {
 fn read(t: Tally, name: &[u8], limit: usize, replies: usize) -> Tally {
     let memory = pallet::MEMORY;
     let mut joined = [0u8; 64];
-    let j = join_all(Asked::Rows, limit, &mut joined);
+    let j = join_all(Question::Rows, limit, &mut joined);
     let t = tally::bytes(t, name, tally::first(&joined, j.bytes), &memory[4..44]);
     tally::replies(t, j.replies, replies)
 }
@@ -143,9 +143,9 @@ fn read(t: Tally, name: &[u8], limit: usize, replies: usize) -> Tally {
 /// Continued pages give the entries of one page at a large limit, in this many replies.
 fn page(t: Tally, name: &[u8], limit: usize, replies: usize) -> Tally {
     let mut whole = [0u8; 64];
-    let w = join_all(Asked::Symbols, 100, &mut whole);
+    let w = join_all(Question::Symbols, 100, &mut whole);
     let mut joined = [0u8; 64];
-    let j = join_all(Asked::Symbols, limit, &mut joined);
+    let j = join_all(Question::Symbols, limit, &mut joined);
     let t = tally::bytes(
         t,
         name,

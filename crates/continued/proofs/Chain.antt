@@ -95,7 +95,8 @@ module _ (selected : List ℕ) (h : ℕ) where
       go (some z e) (closed y k f) cut = absurd (o y)
       go (some z e) (open′ k f) (whole a b d) = closed d refl f
       go (some z e) (open′ k f) (part a b d) =
-          open′ (omega (arith, joined-length limit t, rounded-mono (space h least) (space h limit) (omega (arith, m .0)))) (Few.some {j = length t} (omega (arith, m .0)))
+          open′ (omega (arith, joined-length limit t, rounded-mono (space h least) (space h limit) (omega (arith, m .0))))
+          (Few.some {j = length t} (omega (arith, m .0)))
 
 -- each limit is at least the smallest
 least-each : (m : ℕ) (answers : List Answer) → Each (λ a. smallest m answers ≤ a .limit) answers

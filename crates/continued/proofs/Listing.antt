@@ -67,7 +67,8 @@ module _ (due : List Entry) where
       go : Stand due i t → (b : Bool) → eqb n (length (drop i due)) ≡ b → Stand due (i + n) (page limit (drop i due) ∷ t)
       go (fresh s z k) true e = done (status-is true e) (omega (arith, eqb-true n _ e, length-drop i due)) (omega arith)
       go (fresh s z k) false e = part (omega arith) e
-      go (more s z k) true e = done (status-is true e) (omega (arith, eqb-true n _ e, length-drop i due)) (omega (arith, eqb-true n _ e, length-drop i due, brings limit i l z))
+      go (more s z k) true e = done (status-is true e) (omega (arith, eqb-true n _ e, length-drop i due))
+          (omega (arith, eqb-true n _ e, length-drop i due, brings limit i l z))
       go (more s z k) false e = part k e
       go (done s z k) b e = absurd (o s)
 
@@ -178,7 +179,8 @@ module _ {State Event : Type 0} (hear : Sent → State → Outcome) (after : Sen
       → Replied (hear s m) → hear s m ≡ replied (pageReply service (drop i (dueIn m)) (s .limit))
   asked i [] s m f c x r = rw (none-joined (dueIn m) c) (page-law s m first f x r)
   asked i (a ∷ t) s m f c x r =
-      let same : i ≡ suc (x .0) = bytes-count (dueIn m) (due-bytes m f) i (suc (x .0)) (at-most (dueIn m) c) (x .1) (ap length (sym (first-of-them (dueIn m) c)) ∙ x .2) in
+      let same : i ≡ suc (x .0) = bytes-count (dueIn m) (due-bytes m f) i (suc (x .0)) (at-most (dueIn m) c) (x .1)
+      (ap length (sym (first-of-them (dueIn m) c)) ∙ x .2) in
       rw (same, ← from-next idOf first (symbols m) (sorted m f) (x .0) (x .1)) (page-law s m _ f (x .3) r)
 
   paged : (D : List Entry) (turns : List (Turn Event)) (m : State) (i : ℕ) (t : List Answer) → Fits m → dueIn m ≡ D → Paged D i t

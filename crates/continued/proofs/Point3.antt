@@ -95,15 +95,18 @@ module _ (t : Tables) (f : Flags) (path : List Segment) (elements : ℕ) (g : Gr
         q .offset-is,
       ) refl
 
-  read-law : (x : Sent) (m : Memory) (offset : ℕ) → Asks path elements (x .request) offset → offset < length (selectedBytes (g .selected) m) → Replied (hears t f x m)
+  read-law : (x : Sent) (m : Memory) (offset : ℕ) → Asks path elements (x .request) offset → offset < length (selectedBytes (g .selected) m)
+      → Replied (hears t f x m)
       → (respond t f x m .outcome ≡ replied (fragmentReply 0x52 (g .selected .header) (drop offset (selectedBytes (g .selected) m)) (x .limit)))
       × (respond t f x m .memory ≡ m)
   read-law x m offset q l p = rw (entered t f x m .0 p, answer-asked m (x .request) (x .limit) offset q l) (refl, refl)
 
   -- of any notion of a read that is such a read where something is selected
   reads-of : (reads : Memory → Sent → ℕ → Type 0)
-      → ((x : Sent) (m : Memory) (offset : ℕ) → Fits t m → reads m x offset → offset < length (selectedBytes (g .selected) m) → Asks path elements (x .request) offset)
-      → (m : Memory) (turns : List (Turn Event)) → valid t (length m) ≡ true → FairReads t f reads (g .selected) m turns → ReadsDeliver t f (g .selected) m turns
+      → ((x : Sent) (m : Memory) (offset : ℕ) → Fits t m → reads m x offset → offset < length (selectedBytes (g .selected) m)
+      → Asks path elements (x .request) offset)
+      → (m : Memory) (turns : List (Turn Event)) → valid t (length m) ≡ true → FairReads t f reads (g .selected) m turns
+      → ReadsDeliver t f (g .selected) m turns
   reads-of reads asks m turns v =
       reads-deliver (hears t f) (leaves t f) (steps t f) reads (selectedBytes (g .selected)) (g .selected .header) 0x52 (Fits t) Between
       (keeps t f) (stays t f) (λ x m offset v q l. read-law x m offset (asks x m offset v q l) l) (λ x m. entered t f x m .1)
@@ -159,9 +162,11 @@ module _ (t : Tables) (f : Flags) (scope : ℕ) (attributes : List ℕ) (accepte
       (λ x m id v q. page-law x m id (asks x m id q)) (λ x m v. refl) m turns v
 
 pub continued-pages : Continued-pages
-continued-pages t f scope attributes first m turns v accepted = pages-of t f scope attributes accepted (Pages t scope attributes) (λ x m id q. q) first m turns v
+continued-pages t f scope attributes first m turns v accepted = pages-of t f scope attributes accepted (Pages t scope attributes)
+    (λ x m id q. q) first m turns v
 
 pub exact-pages : Exact-pages
 exact-pages t f scope attributes first m turns r =
     pages-of t f scope attributes (r .accepted) (ExactPages t scope attributes)
-    (λ x m id q. rw (q .2, ← append-nil (pageRequest (q .0) attributes)) (exact-page t scope attributes (q .0) id [] (r .count) (r .accepted) (q .1))) first m turns (r .tables)
+    (λ x m id q. rw (q .2, ← append-nil (pageRequest (q .0) attributes)) (exact-page t scope attributes (q .0) id [] (r .count) (r .accepted) (q .1))) first
+    m turns (r .tables)

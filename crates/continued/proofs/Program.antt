@@ -154,7 +154,12 @@ message-point-3 t f = (program-point-3 t f (ByMessage t f) faithful, total)
 laid-by : (t : Tables) (f : Flags) (s : Sent) (m : Memory) → Taken t s m → respond t f s m ≡ lay (s .limit) (s .buffer) (answer t f m (s .request) (s .limit))
 unfolding respond entry
 laid-by t f s m k =
-    rw (le-ltb 65535 (length (s .request)) (k .request-fits), le-ltb 65535 (s .limit) (k .limit-fits), le-ltb (length (s .buffer)) (room (s .limit)) (k .has-room), k .tables)
+    rw (
+      le-ltb 65535 (length (s .request)) (k .request-fits),
+      le-ltb 65535 (s .limit) (k .limit-fits),
+      le-ltb (length (s .buffer)) (room (s .limit)) (k .has-room),
+      k .tables,
+    )
     refl
 
 pub answer-point-3 : Answer-point-3

@@ -45,7 +45,8 @@ numbers-back (n ∷ ns) more a = rw (u16-le16 n (numberBytes ns ++ more) (a .0),
 counted-back : (ns more : List ℕ) → length ns < 65536 → All (λ n. n < 65536) ns → counted (le16 (length ns) ++ (numberBytes ns ++ more)) ≡ some ns
 unfolding counted
 counted-back ns more h a =
-    let fits : 2 + 2 * length ns ≤ length (le16 (length ns) ++ (numberBytes ns ++ more)) = omega (arith, number-bytes-length ns, length-append (numberBytes ns) more) in
+    let fits : 2 + 2 * length ns ≤ length
+    (le16 (length ns) ++ (numberBytes ns ++ more)) = omega (arith, number-bytes-length ns, length-append (numberBytes ns) more) in
     rw (u16-le16 (length ns) (numberBytes ns ++ more) h, le-ltb, numbers-back ns more a)
 
 -- an attribute of those accepted is a small number
@@ -94,7 +95,10 @@ unfolding pageRequest
 exact-page t scope attributes path id more few accepted s = record {
   path = s .decoded;
   body = le16 (length attributes) ++ (numberBytes attributes ++ more);
-  is = rw (append-assoc (path ++ le16 (length attributes)) (numberBytes attributes) more, append-assoc path (le16 (length attributes)) (numberBytes attributes ++ more))
+  is = rw (
+    append-assoc (path ++ le16 (length attributes)) (numberBytes attributes) more,
+    append-assoc path (le16 (length attributes)) (numberBytes attributes ++ more),
+  )
       (decoded-request 0x55 path (s .decoded) (le16 (length attributes) ++ (numberBytes attributes ++ more)) (s .encodes));
   starts = s .starts;
   list-is = counted-back attributes more few (every-All isListed _ listed-small attributes accepted);

@@ -147,7 +147,8 @@ leaves-out = (
   λ d. go (d .entries) (d .first-of-them),
 )
   where
-    go : (n : ℕ) → joined (talk (hearing (mistaking 5 (λ n. pick (eqb n 0) n (suc n)))) (leaving (mistaking 5 (λ n. pick (eqb n 0) n (suc n)))) still 0 palletStart []
+    go : (n : ℕ) → joined (talk (hearing (mistaking 5 (λ n. pick (eqb n 0) n (suc n))))
+        (leaving (mistaking 5 (λ n. pick (eqb n 0) n (suc n)))) still 0 palletStart []
         (page 17 0 ∷ page 17 2 ∷ [])) ≡ bytesOf (take n (due pallet 0 attributes 0)) → ⊥
     go zero e = let z : _≡_ {A = ℕ} 25 0 = ap length e in omega arith
     go (suc zero) e = let z : _≡_ {A = ℕ} 25 13 = ap length e in omega arith

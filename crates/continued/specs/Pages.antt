@@ -10,7 +10,8 @@ use Rattle.definition.specs.Page.{Entry, idOf, bytesOf}
 use Rattle.definition.specs.Entry.{Outcome}
 use Rattle.continued.specs.Reads.{Sent, Turn, ours, other, Answer, joined, lastStatus, Each, heard, Replied, Quiet}
 
--- the start ID is the first until a page is answered, then the last joined ID plus one: of the k-th entry due, if as many bytes are joined as there are up to it
+-- the start ID is the first until a page is answered, then the last joined ID plus one: of the k-th entry due, if as many bytes are joined as there are up to
+-- it
 abbrev pub Starts : (pages : ℕ → Type 0) (due : List Entry) (first : ℕ) → List Answer → Type 0
 Starts pages due first [] = pages first
 Starts pages due first (a ∷ before) =

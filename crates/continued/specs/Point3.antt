@@ -85,7 +85,8 @@ pub record AsksPage (t : Tables) (scope : ℕ) (attributes : List ℕ) (message 
 abbrev pub Pages : Tables → (scope : ℕ) (attributes : List ℕ) → Memory → Sent → ℕ → Type 0
 Pages t scope attributes m s id = AsksPage t scope attributes (s .request) id
 
-abbrev pub FairList : Tables → Flags → (pages : Memory → Sent → ℕ → Type 0) → (scope : ℕ) (attributes : List ℕ) (first : ℕ) → Memory → List (Turn Event) → Type 0
+abbrev pub FairList : Tables → Flags → (pages : Memory → Sent → ℕ → Type 0) → (scope : ℕ) (attributes : List ℕ) (first : ℕ) → Memory → List (Turn Event)
+    → Type 0
 FairList t f pages scope attributes first m turns =
     FairPages (hears t f) (leaves t f) (steps t f) pages (λ m. due t scope attributes first) first Between m [] turns
 

@@ -88,7 +88,8 @@ Program-point-3 = (t : Tables) (f : Flags) (step : Step) → Faithful t f step �
 -- every list of turns has a run, from every memory
 abbrev pub Runs-exist : Type 1
 Runs-exist =
-    (step : Step) → Total step → (h : ℕ) (m : Memory) (answers : List Answer) (turns : List (Turn Event)) → (out : List Answer) × RunsOf step h m answers turns out
+    (step : Step) → Total step → (h : ℕ) (m : Memory) (answers : List Answer) (turns : List (Turn Event))
+    → (out : List Answer) × RunsOf step h m answers turns out
 
 -- ---- the steps of `message` and of `answer` on valid tables, by their contracts alone
 

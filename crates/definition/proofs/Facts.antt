@@ -85,7 +85,8 @@ module _ (t : Tables) (memory : ℕ) (ok : valid t memory ≡ true) where
 
   structure-fits : (i : ℕ) → i < length (t .structures) → structureFits (t .structures) (t .members) (length (t .templates)) i (structureAt t i) ≡ true
   unfolding t4
-  structure-fits i h = everyFrom-at (structureFits (t .structures) (t .members) (length (t .templates))) [] 0 (t .structures) i i (both-true _ _ (last-three .0) .0) h (omega arith)
+  structure-fits i h = everyFrom-at (structureFits (t .structures) (t .members) (length (t .templates))) [] 0 (t .structures) i i
+      (both-true _ _ (last-three .0) .0) h (omega arith)
 
   structure-some : (i : ℕ) → i < length (t .structures) → 0 < structureSize (structureAt t i)
   unfolding structureFits

@@ -104,7 +104,8 @@ proper-send limit service (granted s) memory offset h =
     pick-all (Proper limit) (leb (length (selectedBytes s memory)) offset) (proper-fail limit service _ refl) (proper-fragment limit service _ _ h)
 proper-send limit service (notGranted status) memory offset k = proper-fail limit service status (k .0)
 
-proper-read : (structures : List Row) (memory : List ℕ) (service : ℕ) (g : Target) (body : List ℕ) (limit : ℕ) → Proper limit (readReply structures memory service g body limit)
+proper-read : (structures : List Row) (memory : List ℕ) (service : ℕ) (g : Target) (body : List ℕ) (limit : ℕ)
+    → Proper limit (readReply structures memory service g body limit)
 unfolding readReply isStatus some-of
 proper-read structures memory service g body limit =
     pick-all (Proper limit) (ltb (length body) (pick (isFragmented service) 6 2)) (proper-fail limit service _ refl)
@@ -178,7 +179,8 @@ move-well t f (indexes es) g =
     pick-all TurnsWell (isEmpty (g .lengths)) (refl, refl)
     (pick-all TurnsWell (eqb (length es) (length (g .lengths))) (pick-all TurnsWell (allBelow es (g .lengths)) tt (refl, refl)) (refl, refl))
 move-well t f (member name) g =
-    pick-all TurnsWell (both (isStructure (g .type)) (both (isEmpty (g .lengths)) (eqb (g .bit) noBit))) (member-well t f g (memberNamed t (structureOf t (g .type)) name)) (refl, refl)
+    pick-all TurnsWell (both (isStructure (g .type)) (both (isEmpty (g .lengths)) (eqb (g .bit) noBit)))
+    (member-well t f g (memberNamed t (structureOf t (g .type)) name)) (refl, refl)
 move-well t f stray g = (refl, refl)
 
 walk-well : (t : Tables) (f : Flags) (ms : List Move) (g : Target) → TurnsWell (walk t f ms g)
@@ -213,7 +215,8 @@ program-well t f (some k) rest = scope-well t f (suc k) rest
 scoped-well : (t : Tables) (f : Flags) (name : Option (List ℕ)) (s : Segment) (rest : List Segment) → TurnsWell (scopedBy t f name s rest)
 scoped-well t f none s rest = scope-well t f 0 (s ∷ rest)
 scoped-well t f (some name) s rest =
-    pick-all TurnsWell (both (isProgramName name) (not (isEmpty rest))) (program-well t f (programNamed t (afterPrefix name)) rest) (scope-well t f 0 (s ∷ rest))
+    pick-all TurnsWell (both (isProgramName name) (not (isEmpty rest))) (program-well t f (programNamed t (afterPrefix name)) rest)
+    (scope-well t f 0 (s ∷ rest))
 
 resolve-well : (t : Tables) (f : Flags) (path : List Segment) → TurnsWell (resolve t f path)
 unfolding resolve isStatus some-of
@@ -222,7 +225,8 @@ resolve-well t f (s ∷ rest) = scoped-well t f (nameOf s) s rest
 
 pub target-well : (t : Tables) (f : Flags) (writes : Bool) (path : List Segment) → TurnsWell (tagTarget t f writes path)
 unfolding tagTarget permitted isStatus some-of
-target-well t f writes path = then-well (resolve t f path) (permitted t f writes) (resolve-well t f path) (λ g. pick-all TurnsWell (isDenied t f writes g) (refl, refl) tt)
+target-well t f writes path = then-well (resolve t f path) (permitted t f writes) (resolve-well t f path)
+    (λ g. pick-all TurnsWell (isDenied t f writes g) (refl, refl) tt)
 
 -- ---- templates, attribute lists, pages
 
@@ -300,7 +304,8 @@ proper-target : (t : Tables) (memory : List ℕ) (service : ℕ) (r : Resolved) 
 proper-target t memory service (turned status) body limit w = proper-fail limit service status (w .0)
 proper-target t memory service (found g) body limit w =
     pick-all (λ (a : Answer). Proper limit (a .reply)) (isRead service) (proper-read (t .structures) memory service g body limit)
-    (pick-all (λ (a : Answer). Proper limit (a .reply)) (eqb service 0x4E) (proper-store limit service (maskedStored memory g body) memory (masked-well memory g body))
+    (pick-all (λ (a : Answer). Proper limit (a .reply)) (eqb service 0x4E)
+    (proper-store limit service (maskedStored memory g body) memory (masked-well memory g body))
     (proper-store limit service (writeStored (t .structures) memory service g body) memory (write-well (t .structures) memory service g body)))
 
 headed-otherwise : (service : ℕ) (o : Object) → Headed (otherwise service o)
@@ -344,7 +349,14 @@ proper-close : (limit : ℕ) (rs : Replies) → Proper limit (closeEnvelope limi
 unfolding closeEnvelope envelopeReply isStatus some-of
 proper-close limit rs =
     by-test (leb (length (envelopeReply (rs .replies))) limit)
-    (λ e. rw e (record { headed = headed-reply 0x0A _ _ (pick-all Known (every (λ r. eqb (getD r 2 0) 0) (rs .replies)) refl refl); fits = omega (arith, leb-true (length (envelopeReply (rs .replies))) limit e) }))
+    (λ e. rw e (record {
+      headed = headed-reply 0x0A _ _
+          (pick-all Known (every (λ r. eqb (getD r 2 0) 0) (rs .replies)) refl refl);
+      fits = omega (
+        arith,
+        leb-true (length (envelopeReply (rs .replies))) limit e,
+      );
+    }))
     (λ e. rw e (proper-fail limit 0x0A _ refl))
 
 proper-parts : (d : Dispatcher) (memory : List ℕ) (parts : Option (List (List ℕ))) (limit : ℕ) → Proper limit (answerParts d memory parts limit .reply)
@@ -357,7 +369,8 @@ unfolding envelope isStatus some-of
 proper-request t f memory message malformed limit = proper-fail limit (getD message 0 0) _ refl
 proper-request t f memory message (request service path body) limit =
     pick-all (λ (a : Answer). Proper limit (a .reply)) (both (eqb service 0x0A) (isRouter (objectOf path)))
-    (pick-all (λ (a : Answer). Proper limit (a .reply)) (takesEnvelopes f) (proper-parts (partDispatch t f) memory (partsOf body) limit) (proper-fail limit 0x0A _ refl))
+    (pick-all (λ (a : Answer). Proper limit (a .reply)) (takesEnvelopes f) (proper-parts (partDispatch t f) memory (partsOf body) limit)
+    (proper-fail limit 0x0A _ refl))
     (proper-plain t f memory service path body limit)
 
 pub proper-answer : (t : Tables) (f : Flags) (memory message : List ℕ) (limit : ℕ) → Proper limit (answer t f memory message limit .reply)

@@ -1,4 +1,5 @@
--- What is told of a row is true of it (specs/Told.antt). The tests are a list that computes, and so are those of a rule: each field of `Says` is shown of these.
+-- What is told of a row is true of it (specs/Told.antt). The tests are a list that computes, and so are those of a rule: each field of `Says` is shown of
+-- these.
 -- Assumes nothing.
 use mathlib.Core.Path.{_≡_, refl, _∙_, ap, subst}
 use mathlib.Core.Logic.{_⊎_, inl, inr}

@@ -85,7 +85,8 @@ target-honest t memory service (found g) body limit =
 write-alone : (service : ℕ) → isWrite service ≡ true → eqb service 0x0A ≡ false
 write-alone service w =
     by-test (eqb service 0x0A)
-    (λ e. absurd (let z : false ≡ true = subst (λ (k : ℕ). isWrite k ≡ true) (eqb-true service 0x0A e) w in let y : _≡_ {A = ℕ} 0 1 = cc z in omega arith)) (λ e. e)
+    (λ e. absurd (let z : false ≡ true = subst (λ (k : ℕ). isWrite k ≡ true) (eqb-true service 0x0A e) w in let y : _≡_ {A = ℕ} 0 1 = cc z in omega arith))
+    (λ e. e)
 
 alone-honest : (t : Tables) (f : Flags) (memory message : List ℕ) (limit service : ℕ) (path : List Segment) (body : List ℕ)
     → requestOf message ≡ request service path body → isWrite service ≡ true → Honest memory (answer t f memory message limit)
@@ -110,7 +111,8 @@ parsed message =
     pick-all (Parsed message) (ltb (length message) (2 + 2 * getD message 1 0)) tt
     (with-path message (segments (part message 2 (2 * getD message 1 0))) (drop (2 + 2 * getD message 1 0) message))
 
-write-honest : (t : Tables) (f : Flags) (memory message : List ℕ) (limit : ℕ) → isWrite (getD message 0 0) ≡ true → Honest memory (answer t f memory message limit)
+write-honest : (t : Tables) (f : Flags) (memory message : List ℕ) (limit : ℕ) → isWrite (getD message 0 0) ≡ true
+    → Honest memory (answer t f memory message limit)
 unfolding answer
 write-honest t f memory message limit w = go (requestOf message) refl (parsed message)
   where
@@ -154,7 +156,8 @@ unfolding atomicSize some-of every
 element-sizes code a =
     by-test (ltb code 0xC1) (λ p. absurd (none-atomic (rw p at a)))
     (λ p. by-test (leb code 0xCB)
-    (λ q. rw (p, q) (every-at Width 0 (1 ∷ 1 ∷ 2 ∷ 4 ∷ 8 ∷ 1 ∷ 2 ∷ 4 ∷ 8 ∷ 4 ∷ 8 ∷ []) (code - 0xC1) refl (omega (arith, ltb-false code 0xC1 p, leb-true code 0xCB q))))
+    (λ q. rw (p, q) (every-at Width 0 (1 ∷ 1 ∷ 2 ∷ 4 ∷ 8 ∷ 1 ∷ 2 ∷ 4 ∷ 8 ∷ 4 ∷ 8 ∷ []) (code - 0xC1) refl
+    (omega (arith, ltb-false code 0xC1 p, leb-true code 0xCB q))))
     (λ q. by-test (ltb code 0xD1) (λ r. absurd (none-atomic (rw (p, q, r) at a)))
     (λ r. by-test (leb code 0xD4)
     (λ u. rw (p, q, r, u) (every-at Width 0 (1 ∷ 2 ∷ 4 ∷ 8 ∷ []) (code - 0xD1) refl (omega (arith, ltb-false code 0xD1 r, leb-true code 0xD4 u))))

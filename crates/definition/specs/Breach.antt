@@ -1,4 +1,5 @@
--- Which test of item 4 (the tables' encoding and T1 to T6) a table set breaks first, and in which row. The tests stand in the order of docs/RULES.md: the counts,
+-- Which test of item 4 (the tables' encoding and T1 to T6) a table set breaks first, and in which row. The tests stand in the order of docs/RULES.md: the
+-- counts,
 -- each table's rows, then rows that clash with each other. A rule's number is 100 times the number of its T plus 1, 2, ..; the encoding's are 1 to 11.
 use mathlib.Core.Bool.{Bool, true}
 use mathlib.Core.List.{List, [], _∷_, _++_, map}

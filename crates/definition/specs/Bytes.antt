@@ -9,7 +9,8 @@ use lib.Dec.{ltb}
 use lib.ListN.{length, getD, take, drop}
 use Rattle.laws.specs.Pick.{pick}
 
--- the numbers of 16 and of 32 bits that stand at a position; a byte past the end counts as 0, which never matters: the length is tested wherever one is read [CIP]
+-- the numbers of 16 and of 32 bits that stand at a position; a byte past the end counts as 0, which never matters: the length is tested wherever one is read
+-- [CIP]
 abbrev pub u16At : List ℕ → ℕ → ℕ
 u16At s i = getD s i 0 + 256 * getD s (i + 1) 0
 

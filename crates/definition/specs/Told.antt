@@ -1,4 +1,5 @@
--- What is promised of `breach`: nothing is told exactly of valid tables, and what is told of a row is true of it, rule by rule. Each field of `Says` is a theorem.
+-- What is promised of `breach`: nothing is told exactly of valid tables, and what is told of a row is true of it, rule by rule. Each field of `Says` is a
+-- theorem.
 use mathlib.Core.Path.{_≡_}
 use mathlib.Core.Logic.{_≢_, _⊎_, _↔_}
 use mathlib.Core.Bool.{Bool, true, false}

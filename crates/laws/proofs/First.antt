@@ -98,5 +98,3 @@ module _ {A : Type 0} (f : ℕ → Option A) (i e : ℕ) (whole : Option A) (her
   pub first-end : e ≤ i → none ≡ whole
   unfolding firstOf
   first-end h = let z : e - i ≡ 0 = omega arith in sym (ap (firstOf f i) z) ∙ here
-
-pub ruleset firsts = (first-next, first-hit, first-end)

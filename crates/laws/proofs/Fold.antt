@@ -29,7 +29,8 @@ module _ {A S : Type 0} (f : ℕ → A → S → S) (z : S) (d : A) (i : ℕ) (x
   pub fold-done : (s : S) → s ≡ fold f z i (drop i xs) → i ≤ 0 → s ≡ fold f z 0 xs
   fold-done s e h = let n : i ≡ 0 = omega arith in rw n at e
 
-  pub run-next : (s t : S) (j : ℕ) → run f s i (drop i xs) ≡ run f z 0 xs → i < length xs → t ≡ f i (getD xs i d) s → j ≡ i + 1 → run f t j (drop j xs) ≡ run f z 0 xs
+  pub run-next : (s t : S) (j : ℕ) → run f s i (drop i xs) ≡ run f z 0 xs → i < length xs → t ≡ f i (getD xs i d) s → j ≡ i + 1
+      → run f t j (drop j xs) ≡ run f z 0 xs
   unfolding run
   run-next s t j here h e n = rw (n, add-one, e) (rw (drop-cons xs i d) at here)
 
@@ -40,7 +41,8 @@ module _ {A S : Type 0} (f : ℕ → A → S → S) (z : S) (d : A) (i : ℕ) (x
 pub ruleset folds = (fold-start, fold-back, fold-done, run-next, run-end)
 
 -- a function that goes through each step goes through the fold
-pub fold-map : {A S T : Type 0} (h : S → T) (f : ℕ → A → S → S) (g : ℕ → A → T → T) (z : S) → ((i : ℕ) (x : A) (s : S) → h (f i x s) ≡ g i x (h s)) → (i : ℕ) (xs : List A) → h (fold f z i xs) ≡ fold g (h z) i xs
+pub fold-map : {A S T : Type 0} (h : S → T) (f : ℕ → A → S → S) (g : ℕ → A → T → T) (z : S) → ((i : ℕ) (x : A) (s : S) → h (f i x s) ≡ g i x (h s))
+    → (i : ℕ) (xs : List A) → h (fold f z i xs) ≡ fold g (h z) i xs
 unfolding fold
 fold-map h f g z e i [] = refl
 fold-map h f g z e i (x ∷ xs) = e i x (fold f z (suc i) xs) ∙ ap (g i x) (fold-map h f g z e (suc i) xs)

@@ -1,6 +1,6 @@
--- A loop over the items of a text: the invariant is `over g done bad s (items f next e e at) ≡ over g done bad z (items f next e e 0)`.
+-- The items of a text from a position on: the one that stands there and those behind it, none where it is none, and nothing behind the end.
 -- Assumes nothing.
-use mathlib.Core.Path.{_≡_, refl, sym, ap, _∙_}
+use mathlib.Core.Path.{_≡_, refl, ap}
 use mathlib.Core.List.{List, []}
 use mathlib.Core.Option.{Option, none, some}
 use Prim.Native.Nat.{ℕ, zero, suc, _+_, _<_, _≤_}
@@ -44,20 +44,3 @@ module _ {A : Type 0} (f : ℕ → A) (next : A → ℕ) (e : ℕ) (forward : (a
   unfolding items
   items-end zero at h = rw (le-ltb at e h)
   items-end (suc m) at h = rw (le-ltb at e h)
-
-  module _ {S R : Type 0} (g : A → S → S) (done : S → R) (bad : R) (z : S) where
-    module _ (s : S) (at : ℕ) (here : over g done bad s (items f next e e at) ≡ over g done bad z (items f next e e 0)) where
-      pub over-next : (t : S) (n : ℕ) (a : A) → at < e → a ≡ f at → n ≡ next a → (n ≡ 0 → ⊥) → t ≡ g a s → over g done bad t (items f next e e n) ≡ over g done bad z (items f next e e 0)
-      over-next t n a h p q x y =
-          let x′ : next (f at) ≡ 0 → ⊥ = λ r. x (q ∙ ap next p ∙ r) in
-          rw (y, q, p) (rw (items-at e at (omega arith) h x′, over-before g done bad s (f at)) at here)
-
-      pub over-bad : (v : R) (n : ℕ) (a : A) → at < e → a ≡ f at → n ≡ next a → n ≡ 0 → v ≡ bad → v ≡ over g done bad z (items f next e e 0)
-      unfolding over
-      over-bad v n a h p q x y = y ∙ rw (items-bad e at (omega arith) h (sym (ap next p) ∙ sym q ∙ x)) at here
-
-      pub over-end : (v : R) → e ≤ at → v ≡ done s → v ≡ over g done bad z (items f next e e 0)
-      unfolding over each
-      over-end v h y = y ∙ rw (items-end e at h) at here
-
-pub ruleset overs = (over-next, over-bad, over-end)

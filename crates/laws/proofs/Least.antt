@@ -55,9 +55,19 @@ module _ {A : Type 0} (key : A → ℕ) where
   from-step bound (y ∷ ys) x o h =
       by-test (leb bound (key y))
       (λ q. let same : x ≡ y = cc (rw q at h) in
-      rw (q, same, lt-leb (suc (key y)) (key y) (omega arith), after-all bound (omega (arith, leb-true bound (key y) q)), after-all (suc (key y)) (omega arith)))
+      rw (
+        q,
+        same,
+        lt-leb (suc (key y)) (key y) (omega arith),
+        after-all bound (omega (arith, leb-true bound (key y) q)),
+        after-all (suc (key y)) (omega arith),
+      ))
       (λ q. let k : headOf (from key bound ys) ≡ some x = rw q at h in
-      rw (q, lt-leb (suc (key x)) (key y) (omega (arith, leb-false bound (key y) q, head-all (λ z. bound ≤ key z) (from key bound ys) x (from-bound key bound ys) k)))
+      rw (
+        q,
+        lt-leb (suc (key x)) (key y)
+            (omega (arith, leb-false bound (key y) q, head-all (λ z. bound ≤ key z) (from key bound ys) x (from-bound key bound ys) k)),
+      )
       (from-step bound ys x (o .1) k))
     where
       after-all : (n : ℕ) → n ≤ suc (key y) → from key n ys ≡ ys

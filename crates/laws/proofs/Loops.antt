@@ -32,16 +32,7 @@ module _ {A : Type 0} (p : A → Bool) (d : A) (i : ℕ) (xs : List A) (here : s
   unfolding some-of
   some-none h = rw (drop-of-length-le xs h) at here
 
-  -- the same, with the test's value itself, for a test that the loop makes in place
-  pub some-skip : (j : ℕ) → i < length xs → p (getD xs i d) ≡ false → j ≡ i + 1 → some-of p (drop j xs) ≡ some-of p xs
-  some-skip j h e t = some-next h (sym e) refl t
-
-  pub some-hit : i < length xs → p (getD xs i d) ≡ true → true ≡ some-of p xs
-  some-hit h e = some-found h (sym e) refl
-
 pub ruleset somes = (some-next, some-found, some-none, not-on, not-off)
-
-pub ruleset somes-here = (some-skip, some-hit, some-none)
 
 -- each element from k to i passes: the test of those from k on
 module _ {A : Type 0} (p : A → Bool) (d : A) (i k : ℕ) (xs : List A) (here : every p (drop i xs) ≡ every p (drop k xs)) where
@@ -70,16 +61,7 @@ module _ {A : Type 0} (p : A → Bool) (d : A) (i : ℕ) (xs : List A) (here : e
   pub every-end : length xs ≤ i → true ≡ every p xs
   every-end = every-done p d i 0 xs here
 
-  -- the same, with the test's value itself
-  pub every-pass : (j : ℕ) → i < length xs → p (getD xs i d) ≡ true → j ≡ i + 1 → every p (drop j xs) ≡ every p xs
-  every-pass j h e t = every-next h (sym e) refl t
-
-  pub every-fail : i < length xs → p (getD xs i d) ≡ false → false ≡ every p xs
-  every-fail h e = every-stop h (sym e) refl
-
 pub ruleset everys = (every-next, every-stop, every-end, not-on, not-off)
-
-pub ruleset everys-here = (every-pass, every-fail, every-end)
 
 -- the same with each element's index
 module _ {A : Type 0} (p : ℕ → A → Bool) (d : A) (i : ℕ) (xs : List A) (here : everyFrom p i (drop i xs) ≡ everyFrom p 0 xs) where

@@ -66,7 +66,8 @@ pub drop-laid : (m : ℕ) (old ys : List ℕ) → length ys ≤ m → drop m (la
 unfolding laid
 drop-laid m old ys h =
     let e : length (ys ++ replicate (m - length ys) 0) ≡ m = simp (length-append, length-replicate) (omega arith) in
-    ap (λ (l : List ℕ). drop m l) (sym (append-assoc ys (replicate (m - length ys) 0) (drop m old))) ∙ drop-at (ys ++ replicate (m - length ys) 0) (drop m old) m e
+    ap (λ (l : List ℕ). drop m l) (sym (append-assoc ys (replicate (m - length ys) 0) (drop m old)))
+    ∙ drop-at (ys ++ replicate (m - length ys) 0) (drop m old) m e
 
 pub length-laid : (m : ℕ) (old ys : List ℕ) → length ys ≤ m → m ≤ length old → length (laid m old ys) ≡ length old
 unfolding laid

@@ -11,7 +11,8 @@ use Rattle.laws.specs.Scan.{scan}
 use Rattle.laws.proofs.Chain.{pick-map}
 
 -- the scan from i on is the whole scan: where a loop that has found nothing yet is
-module _ {A R : Type 0} (p : A → Bool) (hit : ℕ → R) (miss : R) (d : A) (i : ℕ) (xs : List A) (here : scan p hit miss i (drop i xs) ≡ scan p hit miss 0 xs) where
+module _ {A R : Type 0} (p : A → Bool) (hit : ℕ
+    → R) (miss : R) (d : A) (i : ℕ) (xs : List A) (here : scan p hit miss i (drop i xs) ≡ scan p hit miss 0 xs) where
   pub scan-next : {r : Bool} {j : ℕ} → i < length xs → r ≡ p (getD xs i d) → r ≡ false → j ≡ i + 1 → scan p hit miss j (drop j xs) ≡ scan p hit miss 0 xs
   unfolding scan
   scan-next h e n t = rw (t, add-one) (rw (drop-cons xs i d, ← e, n) at here)

@@ -142,7 +142,8 @@ pairs-by p d (x ∷ xs) f =
     both-on _ _ (every-by (p x) d xs (λ j h. f zero (suc j) (omega arith) (omega arith)))
     (pairs-by p d xs (λ i j h l. f (suc i) (suc j) (omega arith) (omega arith)))
 
-pub pairs-at : {A : Type 0} (p : A → A → Bool) (d : A) (xs : List A) (i : ℕ) → pairs p xs ≡ true → i < length xs → every (p (getD xs i d)) (drop (suc i) xs) ≡ true
+pub pairs-at : {A : Type 0} (p : A → A → Bool) (d : A) (xs : List A) (i : ℕ) → pairs p xs ≡ true → i < length xs
+    → every (p (getD xs i d)) (drop (suc i) xs) ≡ true
 unfolding pairs
 pairs-at p d [] i e h = absurd (omega arith)
 pairs-at p d (x ∷ xs) zero e h = both-true (every (p x) xs) _ e .0

@@ -37,14 +37,16 @@ agree-split p (suc m) [] (y ∷ ys) = refl
 agree-split p (suc m) (x ∷ xs) [] = refl
 agree-split p (suc m) (x ∷ xs) (y ∷ ys) = ap (both (p x y)) (agree-split p m xs ys) ∙ sym (both-assoc (p x y) _ _)
 
-module _ {A B : Type 0} (p : A → B → Bool) (m : ℕ) (a x : List A) (b y : List B) (x-is : x ≡ drop m a) (y-is : y ≡ drop m b) (r : Bool) (is : r ≡ agree p x y) where
+module _ {A B : Type 0} (p : A → B
+    → Bool) (m : ℕ) (a x : List A) (b y : List B) (x-is : x ≡ drop m a) (y-is : y ≡ drop m b) (r : Bool) (is : r ≡ agree p x y) where
   pub agree-first : (s : Bool) → r ≡ true → s ≡ agree p (take m a) (take m b) → s ≡ agree p a b
   agree-first s e f = f ∙ sym (agree-split p m a b ∙ rw (← x-is, ← y-is, ← is, e) (both-all _))
 
   pub agree-second : r ≡ false → false ≡ agree p a b
   agree-second e = sym (agree-split p m a b ∙ rw (← x-is, ← y-is, ← is, e, both-none))
 
-module _ {A B : Type 0} (p : A → B → Bool) (d : A) (f : B) (i : ℕ) (a : List A) (b : List B) (here : agree p (drop i a) (drop i b) ≡ agree p a b) (long : length a ≡ length b) where
+module _ {A B : Type 0} (p : A → B
+    → Bool) (d : A) (f : B) (i : ℕ) (a : List A) (b : List B) (here : agree p (drop i a) (drop i b) ≡ agree p a b) (long : length a ≡ length b) where
   pub agree-next : {r : Bool} {j : ℕ} → i < length a → r ≡ p (getD a i d) (getD b i f) → r ≡ true → j ≡ i + 1 → agree p (drop j a) (drop j b) ≡ agree p a b
   unfolding agree
   agree-next h e y t = let k : i < length b = omega arith in rw (t, add-one) (rw (drop-cons a i d, drop-cons b i f, ← e, y) at here)

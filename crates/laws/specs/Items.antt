@@ -9,7 +9,8 @@ abbrev pub before : {A : Type 0} → A → Option (List A) → Option (List A)
 before a none = none
 before a (some l) = some (a ∷ l)
 
--- f reads the item at a position, and next says where it ends, 0 where it is none. The first number bounds how many items there are: the text's length is enough.
+-- f reads the item at a position, and next says where it ends, 0 where it is none. The first number bounds how many items there are: the text's length is
+-- enough.
 unfoldable pub items : {A : Type 0} → (ℕ → A) → (A → ℕ) → ℕ → ℕ → ℕ → Option (List A)
 items f next zero e at = pick (ltb at e) none (some [])
 items f next (suc m) e at =

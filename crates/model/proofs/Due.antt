@@ -76,11 +76,13 @@ module _ (scope : ℕ) (attributes : List ℕ) where
     tag-due : {i id : ℕ} → i < length (t .tags) → idOf (entryOf attributes (tagSymbol t (getD (t .tags) i []))) ≡ id
         → due t scope attributes bound ≡ entryOf attributes (tagSymbol t (getD (t .tags) i [])) ∷ due t scope attributes (suc id) → NextDue t bound (Tag i id)
     other-due : {i id : ℕ} → i < length (t .others) → idOf (entryOf attributes (otherSymbol t (getD (t .others) i []))) ≡ id
-        → due t scope attributes bound ≡ entryOf attributes (otherSymbol t (getD (t .others) i [])) ∷ due t scope attributes (suc id) → NextDue t bound (Other i id)
+        → due t scope attributes bound ≡ entryOf attributes (otherSymbol t (getD (t .others) i [])) ∷ due t scope attributes (suc id)
+        → NextDue t bound (Other i id)
 
   module _ (t : Tables) (memory : ℕ) (v : valid t memory ≡ true) (bound : ℕ) where
     head-due : headOf (due t scope attributes bound)
-        ≡ joinLeast idOf (least idOf bound (entries scope attributes (tagSymbol t) (t .tags))) (least idOf bound (entries scope attributes (otherSymbol t) (t .others)))
+        ≡ joinLeast idOf (least idOf bound (entries scope attributes (tagSymbol t) (t .tags)))
+        (least idOf bound (entries scope attributes (otherSymbol t) (t .others)))
     unfolding due listing symbols
     head-due = search-finds idOf bound _ ∙ rw map-append (least-append idOf bound _ _)
 

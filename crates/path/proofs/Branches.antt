@@ -18,7 +18,8 @@ use denote.RattleType.{RattleType}
 use denote.Laws.{Is, shows}
 use denote.Steps.{heard, peeks}
 
-module _ {M : Type 1} {𝓤 : URA M} {H : Heap 𝓤} {A : Atoms 𝓤} {K : Type 0} {W : Given 𝓤 H A} {Γ : List (Item 𝓤)} {E : Env 𝓤 H} {C : Calls 𝓤 H} {Λ : Loops 𝓤 H} {q : Post 𝓤 H} where
+module _ {M : Type 1} {𝓤 : URA M} {H : Heap 𝓤} {A : Atoms 𝓤} {K : Type 0} {W : Given 𝓤 H A} {Γ : List (Item 𝓤)} {E : Env 𝓤 H} {C : Calls 𝓤 H}
+    {Λ : Loops 𝓤 H} {q : Post 𝓤 H} where
   -- the test holds and the turn goes on, or it fails and the `exit` is taken
   pub tests : K → {c : Operand} {n : ℕ} {b : Body} {y : Bool} → Opd K W Γ E c (vbool y)
       → (T y → Seq K W Γ (runs C Λ E b q)) → (T (not y) → Seq K W Γ (prop (post 𝓤 H q (exits n)))) → Seq K W Γ (runs C Λ E (seq (cond c skip (exit n)) b) q)
@@ -32,7 +33,8 @@ module _ {M : Type 1} {𝓤 : URA M} {H : Heap 𝓤} {A : Atoms 𝓤} {K : Type 
 
 module _ {M : Type 1} {𝓤 : URA M} {H : Heap 𝓤} {A : Atoms 𝓤} {K : Type 0} {W : Given 𝓤 H A} {Γ : List (Item 𝓤)} {G : Goal 𝓤 H} where
   -- a call has returned w: its result is an x of the type S, and F is known of it. i is what the callee gave back: the lifetimes' tokens
-  pub returned : K → Soaks G → (S : RattleType) (F : S .Denot → Type 0) {i : Item 𝓤} {w : Val} {E : S .Denot → SProp 𝓤} → ((x : S .Denot) → ent 𝓤 (E x) (fact 𝓤 (F x)))
+  pub returned : K → Soaks G → (S : RattleType) (F : S .Denot → Type 0) {i : Item 𝓤} {w : Val} {E : S .Denot → SProp 𝓤}
+      → ((x : S .Denot) → ent 𝓤 (E x) (fact 𝓤 (F x)))
       → ((x : S .Denot) → F x → Is S x (w ∷ []) → Seq K W (‵ (S .own x (w ∷ [])) ∷ i ∷ Γ) G)
       → Seq K W (later (some (λ (x : S .Denot). (i ⊛ ‵ (S .own x (w ∷ []))) ⊛ raw (E x))) ∷ Γ) G
   returned t z S F {i} {w} {E} said k =

@@ -71,7 +71,8 @@ module _ {M : Type 1} (𝓤 : URA M) (H : Heap 𝓤) (A : Atoms 𝓤) (mem : Mem
 
 -- ---- the values that stand in locals
 
-pub typed-segment : {M : Type 1} (𝓤 : URA M) (H : Heap 𝓤) (A : Atoms 𝓤) → Given 𝓤 H A → (t : Segment) (w : Val) → Is S.the-row t (w ∷ []) → Holds (hasTy S′.mir w) × WT w
+pub typed-segment : {M : Type 1} (𝓤 : URA M) (H : Heap 𝓤) (A : Atoms 𝓤) → Given 𝓤 H A → (t : Segment) (w : Val) → Is S.the-row t (w ∷ [])
+    → Holds (hasTy S′.mir w) × WT w
 typed-segment 𝓤 H A W t w is = EL.lawful S.the-type S′.the-laws 𝓤 H A W tt .typed t _ is .0
 
 module _ {M : Type 1} (𝓤 : URA M) (H : Heap 𝓤) (A : Atoms 𝓤) (W : Given 𝓤 H A) (κ : Lft) where
@@ -86,7 +87,8 @@ module _ {M : Type 1} (𝓤 : URA M) (H : Heap 𝓤) (A : Atoms 𝓤) (W : Given
   at-fits r u is = LL.owed (T.the-type αᵉ) (T′.the-laws αᵉ) r _ is .1 .0 .1
 
   -- the record is Copy: what it owns is had twice, once for a call
-  pub reader-twice : (r : Reader) (u : Val) → ent 𝓤 (sem 𝓤 H A (B (κ, tt) .own r (u ∷ []))) (sep 𝓤 (sem 𝓤 H A (B (κ, tt) .own r (u ∷ []))) (sem 𝓤 H A (B (κ, tt) .own r (u ∷ []))))
+  pub reader-twice : (r : Reader) (u : Val)
+      → ent 𝓤 (sem 𝓤 H A (B (κ, tt) .own r (u ∷ []))) (sep 𝓤 (sem 𝓤 H A (B (κ, tt) .own r (u ∷ []))) (sem 𝓤 H A (B (κ, tt) .own r (u ∷ []))))
   reader-twice r u = LL.copy (T.the-type (namedLft 1 0 tt (κ, tt))) (T′.the-copy (namedLft 1 0 tt (κ, tt))) 𝓤 H A W .twice r (u ∷ [])
 
   -- ---- the calls
@@ -101,15 +103,18 @@ module _ {M : Type 1} (𝓤 : URA M) (H : Heap 𝓤) (A : Atoms 𝓤) (W : Given
       to-new = (((κ, tt), (q, tt), tt, (s, tt), (v ∷ [], tt)), tt)
 
       pub goes-new : ent 𝓤 (⋆ 𝓤 H A (‵ (ShrSlice (named 0) κ u8 .own s (v ∷ [])) ∷ Token ∷ [])) (New 𝓤 H A mem run .pre to-new)
-      goes-new = qed W (‵ (ShrSlice (named 0) κ u8 .own s (v ∷ [])) ∷ Token ∷ []) ∵ nothing ! $ move ! (1 ∷ 0 ∷ []) $ fjoin ! $ move ! (1 ∷ 0 ∷ []) $ join ! $ frame ! $ done !
+      goes-new = qed W (‵ (ShrSlice (named 0) κ u8 .own s (v ∷ [])) ∷ Token ∷ []) ∵ nothing ! $ move ! (1 ∷ 0 ∷ []) $ fjoin ! $ move !
+          (1 ∷ 0 ∷ []) $ join ! $ frame ! $ done !
 
       new-said : (r : Reader) → ent 𝓤 (ensured 𝓤 H A new.ended (new.clauses 𝓤 H A mem run) (κ, tt) (s, tt) tt r) (fact 𝓤 (NewSaid s r))
       new-said r = exE 𝓤 _ (λ ws. snd∗ 𝓤 (sem 𝓤 H A (lasts new.ended (κ, tt) (s, tt) ws)) (fact 𝓤 (NewSaid s r)))
 
       pub new-told : {K : Type 0} {Γ : List (Item 𝓤)} {G : Goal 𝓤 H} → K → Soaks G → (w : Val)
-          → ((r : Reader) → NewSaid s r → Is (B (κ, tt)) r (w ∷ []) → Seq K W (‵ (B (κ, tt) .own r (w ∷ [])) ∷ Token ∷ Γ) G) → Seq K W (raw (New 𝓤 H A mem run .post to-new w) ∷ Γ) G
+          → ((r : Reader) → NewSaid s r → Is (B (κ, tt)) r (w ∷ []) → Seq K W (‵ (B (κ, tt) .own r (w ∷ [])) ∷ Token ∷ Γ) G)
+          → Seq K W (raw (New 𝓤 H A mem run .post to-new w) ∷ Γ) G
       new-told t z w k =
-          use1 W (later (some (λ (r : Reader). (Token ⊛ ‵ (B (κ, tt) .own r (w ∷ []))) ⊛ raw (ensured 𝓤 H A new.ended (new.clauses 𝓤 H A mem run) (κ, tt) (s, tt) tt r)))) (id⊢ 𝓤 _) $
+          use1 W (later (some (λ (r : Reader). (Token ⊛ ‵ (B (κ, tt) .own r (w ∷ []))) ⊛ raw
+          (ensured 𝓤 H A new.ended (new.clauses 𝓤 H A mem run) (κ, tt) (s, tt) tt r)))) (id⊢ 𝓤 _) $
           returned t z (B (κ, tt)) (NewSaid s) new-said k
 
     -- `segment`, at the record r with the machine value u
@@ -121,7 +126,8 @@ module _ {M : Type 1} (𝓤 : URA M) (H : Heap 𝓤) (A : Atoms 𝓤) (W : Given
       goes-segment = goes-thin S.the-row S′.mir segment-def.name Decoded 𝓤 H A W κ q r u
 
       pub segment-told : {K : Type 0} {Γ : List (Item 𝓤)} {G : Goal 𝓤 H} → K → Soaks G → (w : Val)
-          → ((t : Segment) → Decoded (now (r .path)) (r .at) t → Is S.the-row t (w ∷ []) → Seq K W (‵ (S.the-row .own t (w ∷ [])) ∷ Token ∷ Γ) G) → Seq K W (raw (Seg 𝓤 H A mem run .post to-segment w) ∷ Γ) G
+          → ((t : Segment) → Decoded (now (r .path)) (r .at) t → Is S.the-row t (w ∷ []) → Seq K W (‵ (S.the-row .own t (w ∷ [])) ∷ Token ∷ Γ) G)
+          → Seq K W (raw (Seg 𝓤 H A mem run .post to-segment w) ∷ Γ) G
       segment-told = thin-told S.the-row S′.mir segment-def.name Decoded 𝓤 H A W κ q r u
 
     -- `moved`, at that record and the number n
@@ -130,15 +136,18 @@ module _ {M : Type 1} (𝓤 : URA M) (H : Heap 𝓤) (A : Atoms 𝓤) (W : Given
       to-moved = (((κ, tt), (q, tt), tt, (r, (n, tt)), (u ∷ [], (vint w64 n ∷ [], tt))), tt)
 
       pub goes-moved : n < 2 ^ 64 → ent 𝓤 (⋆ 𝓤 H A (‵ (B (κ, tt) .own r (u ∷ [])) ∷ Token ∷ [])) (Moved 𝓤 H A mem run .pre to-moved)
-      goes-moved ok = qed W (‵ (B (κ, tt) .own r (u ∷ [])) ∷ Token ∷ []) ∵ nothing ! $ owned ! usize (Is usize) (uint-makes 𝓤 H A W w64) n _ (refl, ok) $ fjoin ! $ move ! (1 ∷ 0 ∷ []) $ fjoin ! $ move ! (1 ∷ 0 ∷ []) $ join ! $ frame ! $ done !
+      goes-moved ok = qed W (‵ (B (κ, tt) .own r (u ∷ [])) ∷ Token ∷ []) ∵ nothing ! $ owned ! usize (Is usize) (uint-makes 𝓤 H A W w64) n _
+          (refl, ok) $ fjoin ! $ move ! (1 ∷ 0 ∷ []) $ fjoin ! $ move ! (1 ∷ 0 ∷ []) $ join ! $ frame ! $ done !
 
       moved-said : (p : Reader) → ent 𝓤 (ensured 𝓤 H A moved.ended (moved.clauses 𝓤 H A mem run) (κ, tt) (r, (n, tt)) tt p) (fact 𝓤 (MovedSaid r n p))
       moved-said p = exE 𝓤 _ (λ ws. snd∗ 𝓤 (sem 𝓤 H A (lasts moved.ended (κ, tt) (r, (n, tt)) ws)) (fact 𝓤 (MovedSaid r n p)))
 
       pub moved-told : {K : Type 0} {Γ : List (Item 𝓤)} {G : Goal 𝓤 H} → K → Soaks G → (w : Val)
-          → ((p : Reader) → MovedSaid r n p → Is (B (κ, tt)) p (w ∷ []) → Seq K W (‵ (B (κ, tt) .own p (w ∷ [])) ∷ Token ∷ Γ) G) → Seq K W (raw (Moved 𝓤 H A mem run .post to-moved w) ∷ Γ) G
+          → ((p : Reader) → MovedSaid r n p → Is (B (κ, tt)) p (w ∷ []) → Seq K W (‵ (B (κ, tt) .own p (w ∷ [])) ∷ Token ∷ Γ) G)
+          → Seq K W (raw (Moved 𝓤 H A mem run .post to-moved w) ∷ Γ) G
       moved-told t z w k =
-          use1 W (later (some (λ (p : Reader). (Token ⊛ ‵ (B (κ, tt) .own p (w ∷ []))) ⊛ raw (ensured 𝓤 H A moved.ended (moved.clauses 𝓤 H A mem run) (κ, tt) (r, (n, tt)) tt p)))) (id⊢ 𝓤 _) $
+          use1 W (later (some (λ (p : Reader). (Token ⊛ ‵ (B (κ, tt) .own p (w ∷ []))) ⊛ raw
+          (ensured 𝓤 H A moved.ended (moved.clauses 𝓤 H A mem run) (κ, tt) (r, (n, tt)) tt p)))) (id⊢ 𝓤 _) $
           returned t z (B (κ, tt)) (MovedSaid r n) moved-said k
 
 module _ {M : Type 1} (𝓤 : URA M) (H : Heap 𝓤) (A : Atoms 𝓤) (W : Given 𝓤 H A) (mem : Memory → SProp 𝓤) (run : Routine → Fun 𝓤) (t : Segment) (u : Val) where
@@ -153,7 +162,9 @@ module _ {M : Type 1} (𝓤 : URA M) (H : Heap 𝓤) (A : Atoms 𝓤) (W : Given
   next-of-said n = exE 𝓤 _ (λ ws. snd∗ 𝓤 (sem 𝓤 H A (lasts next-of.ended tt (t, tt) ws)) (fact 𝓤 (n ≡ nextAfter t)))
 
   pub next-of-told : {K : Type 0} {Γ : List (Item 𝓤)} {G : Goal 𝓤 H} → K → Soaks G → (w : Val)
-      → ((n : ℕ) → n ≡ nextAfter t → Is usize n (w ∷ []) → Seq K W (‵ (usize .own n (w ∷ [])) ∷ ‵ ftrue ∷ Γ) G) → Seq K W (raw (NextOf 𝓤 H A mem run .post to-next-of w) ∷ Γ) G
+      → ((n : ℕ) → n ≡ nextAfter t → Is usize n (w ∷ []) → Seq K W (‵ (usize .own n (w ∷ [])) ∷ ‵ ftrue ∷ Γ) G)
+      → Seq K W (raw (NextOf 𝓤 H A mem run .post to-next-of w) ∷ Γ) G
   next-of-told k z w f =
-      use1 W (later (some (λ (n : ℕ). (‵ ftrue ⊛ ‵ (usize .own n (w ∷ []))) ⊛ raw (ensured 𝓤 H A next-of.ended (next-of.clauses 𝓤 H A mem run) tt (t, tt) tt n)))) (id⊢ 𝓤 _) $
+      use1 W (later (some (λ (n : ℕ). (‵ ftrue ⊛ ‵ (usize .own n (w ∷ []))) ⊛ raw
+      (ensured 𝓤 H A next-of.ended (next-of.clauses 𝓤 H A mem run) tt (t, tt) tt n)))) (id⊢ 𝓤 _) $
       returned k z usize (λ n. n ≡ nextAfter t) next-of-said f

@@ -7,10 +7,10 @@ use lib.ListN.{length, getD}
 use borrow.Author.Tests.{lt-ltb}
 use Rattle.path.specs.Decode.{entryOf, logicalOf, byEntry, decodedAt}
 use Rattle.path.specs.declared.Segment.{Segment}
-use Rattle.path.specs.declared.Value.{Value}
-use Rattle.path.specs.declared.Value.the-variants.{Of}
+use Rattle.path.specs.declared.LogicalValue.{LogicalValue}
+use Rattle.path.specs.declared.LogicalValue.the-variants.{Of}
 
-pub logical-case : (k x n : ℕ) (v : Value) (r : Segment) → v ≡ Of x n → r ≡ logicalOf k (Of x n) → r ≡ logicalOf k v
+pub logical-case : (k x n : ℕ) (v : LogicalValue) (r : Segment) → v ≡ Of x n → r ≡ logicalOf k (Of x n) → r ≡ logicalOf k v
 logical-case k x n v r e p = rw e p
 
 pub decode-case : (s : List ℕ) (at e : ℕ) (r : Segment) → at < length s → e ≡ entryOf (getD s at 0) → r ≡ byEntry s (at + 1) e → r ≡ decodedAt s at

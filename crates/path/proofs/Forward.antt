@@ -18,8 +18,8 @@ use Rattle.path.specs.Decode.{kindNumber, formNumber, entryOf, valueAt, 
 use Rattle.path.specs.Paths.{stepOf, NameInside, Decoded}
 use Rattle.path.specs.declared.Segment.{Segment}
 use Rattle.path.specs.declared.Segment.the-variants.{Port, Class, Instance, Element, Attribute, Symbol, Invalid}
-use Rattle.path.specs.declared.Value.{Value}
-use Rattle.path.specs.declared.Value.the-variants.{Of, Cut}
+use Rattle.path.specs.declared.LogicalValue.{LogicalValue}
+use Rattle.path.specs.declared.LogicalValue.the-variants.{Of, Cut}
 use Rattle.path.specs.declared.Part.{Part}
 use Rattle.path.specs.declared.Part.the-variants.{From, Short}
 
@@ -119,7 +119,7 @@ pick-to h true p q = p
 pick-to h false p q = q
 
 module _ (path : List ℕ) where
-  value-is : (make : ℕ → Defined) (h : Value → Step) → ((x n : ℕ) → h (Of x n) ≡ step (make x) n) → h Cut ≡ cut
+  value-is : (make : ℕ → Defined) (h : LogicalValue → Step) → ((x n : ℕ) → h (Of x n) ≡ step (make x) n) → h Cut ≡ cut
       → (at f : ℕ) → h (valueAt path at f) ≡ logicalAt path at f make
   unfolding logicalAt
   value-is make h p q at f =
@@ -202,7 +202,7 @@ module _ (path : List ℕ) (at : ℕ) where
   inside-link : (p : ℕ) (sized : Bool) → Inside (linkFrom path p sized)
   inside-link p sized = pick-all Inside sized (inside-port (partAt path p)) (pick-all Inside (ltb p (length path)) tt tt)
 
-  inside-logical : (k : ℕ) (v : Value) → Inside (logicalOf k v)
+  inside-logical : (k : ℕ) (v : LogicalValue) → Inside (logicalOf k v)
   inside-logical k (Of x n) = pick-all Inside (eqb k 2) tt (pick-all Inside (eqb k 3) tt (pick-all Inside (eqb k 4) tt tt))
   inside-logical k Cut = tt
 

@@ -97,7 +97,8 @@ module _ (path : List ℕ) (at : ℕ) (P : List Defined → Type 0) where
 
 -- ---- a loop: the invariant is `over g done bad s (segmentsFrom path at) ≡ v`; r is what the decoder found
 
-module _ {S R : Type 0} (g : Defined → S → S) (done : S → R) (bad v : R) (path : List ℕ) (s : S) (at : ℕ) (here : over g done bad s (segmentsFrom path at) ≡ v) where
+module _ {S R : Type 0} (g : Defined → S → S) (done : S → R) (bad v : R) (path : List ℕ) (s : S) (at : ℕ)
+    (here : over g done bad s (segmentsFrom path at) ≡ v) where
   next-by : (x : Step) → segmentAt path at ≡ x → (nextOf x ≡ 0 → ⊥) → over g done bad (g (segmentOf x) s) (segmentsFrom path (nextOf x)) ≡ v
   next-by (step a next) e h = sym (over-before g done bad s a (segmentsFrom path next)) ∙ ap (over g done bad s) (sym (segments-step path at a next e)) ∙ here
   next-by cut e h = absurd (h refl)

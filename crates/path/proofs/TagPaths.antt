@@ -82,14 +82,16 @@ module _ (path : List ℕ) (at : ℕ) where
   unfolding tagPathFrom
   tag-at s next e = ap tagPathBy (segments-step path at s next e)
 
-  pair-at : (c : ℕ) → isSome (segmentsFrom path at) ≡ true → (x : Step) → segmentAt path at ≡ x → objectTest c x ≡ tagPathBy (before (class c) (segmentsFrom path at))
+  pair-at : (c : ℕ) → isSome (segmentsFrom path at) ≡ true → (x : Step) → segmentAt path at ≡ x
+      → objectTest c x ≡ tagPathBy (before (class c) (segmentsFrom path at))
   unfolding isTagPath
   pair-at c h (step s next) e = let g = segments-step path at s next e in rw g (pair-by c s (segmentsFrom path next) (rw g at h))
   pair-at c h cut e =
       by-test (ltb at (length path)) (λ t. clash (cc (rw (segments-cut path at (ltb-true at (length path) t) e) at h)))
       (λ t. rw (segments-end path at (ltb-false at (length path) t)))
 
-  no-tag : (s : Defined) (next : ℕ) → segmentAt path at ≡ step s next → ((m : Option (List Defined)) → false ≡ tagPathBy (before s m)) → false ≡ tagPathFrom path at
+  no-tag : (s : Defined) (next : ℕ) → segmentAt path at ≡ step s next → ((m : Option (List Defined)) → false ≡ tagPathBy (before s m))
+      → false ≡ tagPathFrom path at
   no-tag s next e f = f (segmentsFrom path next) ∙ sym (tag-at s next e)
 
 -- r is what the decoder found
@@ -116,7 +118,8 @@ module _ (path : List ℕ) (at : ℕ) (r : Segment) (found : r ≡ decodedAt pat
       (λ t. rw (segments-end path at (ltb-false at (length path) t)))
 
   module _ (decodes : isSome (segmentsFrom path at) ≡ true) where
-    pub tag-class : (c next : ℕ) (second : Segment) (v : Bool) → r ≡ Class c next → second ≡ decodedAt path next → v ≡ symbolObject c second → v ≡ tagPathFrom path at
+    pub tag-class : (c next : ℕ) (second : Segment) (v : Bool) → r ≡ Class c next → second ≡ decodedAt path next → v ≡ symbolObject c second
+        → v ≡ tagPathFrom path at
     tag-class c next second v g e q =
         let s = at-step (Class c next) g in
         q ∙ object-same path c second ∙ ap (objectTest c) (decoded-step path next second e)
@@ -134,13 +137,15 @@ module _ (path : List ℕ) (at : ℕ) (r : Segment) (found : r ≡ decodedAt pat
       tag-further t e = rw (← e, segments-step path at (symbol (part path start n)) next here) (one-less _ (segmentsFrom path next) tag-rest)
 
       pub tag-last : length path ≤ next → true ≡ tagPathFrom path at
-      tag-last h = symbol-alone (part path start n) ∙ sym (tag-at path at _ next here ∙ ap (λ m. tagPathBy (before (symbol (part path start n)) m)) (segments-end path next h))
+      tag-last h = symbol-alone (part path start n)
+          ∙ sym (tag-at path at _ next here ∙ ap (λ m. tagPathBy (before (symbol (part path start n)) m)) (segments-end path next h))
 
       pub tag-plain : (name : List ℕ) (p : Bool) → name ≡ part path start n → p ≡ isProgramName name → p ≡ false → true ≡ tagPathFrom path at
       tag-plain name p e q f =
           symbol-plain (part path start n) (segmentsFrom path next) tag-rest (ap isProgramName (sym e) ∙ sym q ∙ f) ∙ sym (tag-at path at _ next here)
 
-      pub tag-program : (name : List ℕ) (p v : Bool) → name ≡ part path start n → p ≡ isProgramName name → p ≡ true → next < length path → v ≡ tagPathFrom path next
+      pub tag-program : (name : List ℕ) (p v : Bool) → name ≡ part path start n → p ≡ isProgramName name → p ≡ true → next < length path
+          → v ≡ tagPathFrom path next
           → v ≡ tagPathFrom path at
       unfolding tagPathFrom
       tag-program name p v e q f h g =

@@ -77,8 +77,10 @@ module _ {M : Type 1} (𝓤 : URA M) (H : Heap 𝓤) (A : Atoms 𝓤) (W : Given
 
   pub path-too : ent 𝓤 (sem 𝓤 H A (Own κ d)) (sep 𝓤 (sem 𝓤 H A (PathOwn κ d)) (sem 𝓤 H A (Own κ d)))
   path-too =
-      qed W (‵ (Own κ d) ∷ []) ∵ use1 W (‵ (Own κ d) ⊛ ‵ (Own κ d)) (LL.copy D (T′.the-copy (namedLft 1 0 tt (κ, tt))) 𝓤 H A W .twice d (mach d ∷ [])) $ split ! $
-      use1 W (given (mach d ∷ [] ≡ mach d ∷ []) (‵ (all-own (D .parts) L vd))) (own-open 𝓤 H A W D L vd (mach d)) $ learn ! (λ _. use1 W (‵ (ownAt (D .parts) L 0 (d .path)) ⊛ ‵ (rest (D .parts) L 0 vd)) (own-out 𝓤 H A W (D .parts) L 0 vd) $ split ! $
+      qed W (‵ (Own κ d) ∷ []) ∵ use1 W (‵ (Own κ d) ⊛ ‵ (Own κ d))
+      (LL.copy D (T′.the-copy (namedLft 1 0 tt (κ, tt))) 𝓤 H A W .twice d (mach d ∷ [])) $ split ! $
+      use1 W (given (mach d ∷ [] ≡ mach d ∷ []) (‵ (all-own (D .parts) L vd))) (own-open 𝓤 H A W D L vd (mach d)) $ learn !
+      (λ _. use1 W (‵ (ownAt (D .parts) L 0 (d .path)) ⊛ ‵ (rest (D .parts) L 0 vd)) (own-out 𝓤 H A W (D .parts) L 0 vd) $ split ! $
       -- [what the path owns; what at owns; what the record owns]
       move ! (1 ∷ []) $ drop ! $ frame ! $ done !)
 
@@ -180,31 +182,43 @@ module _ (S : RattleType) (τ : Ty) (callee : Name) (P : List ℕ → ℕ → S 
           move ! (1 ∷ []) $ frame ! $ nothing ! $ move ! (2 ∷ 0 ∷ []) $ fjoin ! $ frame ! $ done !
 
       module _ (C : Calls 𝓤 H) (Λ : Loops 𝓤 H) (fm : FmC 𝓤 H (W .laws) C) (known : Triple 𝓤 (C callee) (At 𝓤 H A)) where
-        walk : Holds (hasTy (T′.mir (named 0)) m) × WT m → ent 𝓤 (onEntry 𝓤 H A (ended .signature) (κ, tt) (q, tt) (d, tt) (m ∷ [], tt)) (WpFn 𝓤 H C Λ thin (m ∷ []) Post)
+        walk : Holds (hasTy (T′.mir (named 0)) m) × WT m
+            → ent 𝓤 (onEntry 𝓤 H A (ended .signature) (κ, tt) (q, tt) (d, tt) (m ∷ [], tt)) (WpFn 𝓤 H C Λ thin (m ∷ []) Post)
         walk wt =
             qed W (raw (onEntry 𝓤 H A (ended .signature) (κ, tt) (q, tt) (d, tt) (m ∷ [], tt)) ∷ []) ∵ enter ! C Λ thin (m ∷ []) _ $
             alloc1 ! (λ l₀. alloc1 ! (λ l₁. alloc1 ! (λ l₂. alloc1 ! (λ l₃. alloc0 ! $ params1 ! $ pass1 ! (init ! 4 refl wt) $ pass0 ! $
             -- the record's fields go to locals
-            assigns ! (of-opd ! (load ! (from ! (fld ! refl (stop !))) (look-in ! 4 (sub ! 0 refl (whole !))))) (from ! (stop !)) (init ! 2 refl (tt, wt .1 .0)) $
-            assigns ! (of-opd ! (load ! (from ! (fld ! refl (stop !))) (look-in ! 4 (sub ! 1 refl (whole !))))) (from ! (stop !)) (init ! 0 refl (tt, wt .1 .1 .0)) $
+            assigns ! (of-opd ! (load ! (from ! (fld ! refl (stop !))) (look-in ! 4 (sub ! 0 refl (whole !))))) (from ! (stop !))
+            (init ! 2 refl (tt, wt .1 .0)) $
+            assigns ! (of-opd ! (load ! (from ! (fld ! refl (stop !))) (look-in ! 4 (sub ! 1 refl (whole !))))) (from ! (stop !))
+            (init ! 0 refl (tt, wt .1 .1 .0)) $
             -- the call
             move ! (8 ∷ []) $ use1 W (raw (At 𝓤 H A .pre to) ⊛ ‵ O) (apart (wt .1 .1 .0 .fits)) $ split ! $
-            calls-at ! fm (At 𝓤 H A) known to (and-then ! (load ! (from ! (stop !)) (look ! 4 refl)) (and-then ! (load ! (from ! (stop !)) (look ! 2 refl)) (no-more !))) (λ u.
-            use1 W (later (some (λ (r : S .Denot). ((‵ (flft κ q) ⊛ ‵ ftrue) ⊛ ‵ (S .own r (u ∷ []))) ⊛ raw (ensured 𝓤 H A at-ended (at-clauses 𝓤) (κ, tt) (d .path, (d .at, tt)) tt r)))) (id⊢ 𝓤 _) $ await ! tt $ pick ! (λ r.
+            calls-at ! fm (At 𝓤 H A) known to (and-then ! (load ! (from ! (stop !)) (look ! 4 refl))
+            (and-then ! (load ! (from ! (stop !)) (look ! 2 refl)) (no-more !))) (λ u.
+            use1 W (later (some (λ (r : S .Denot). ((‵ (flft κ q) ⊛ ‵ ftrue) ⊛ ‵ (S .own r (u ∷ []))) ⊛ raw
+            (ensured 𝓤 H A at-ended (at-clauses 𝓤) (κ, tt) (d .path, (d .at, tt)) tt r)))) (id⊢ 𝓤 _) $ await ! tt $ pick ! (λ r.
             split ! $ move ! (1 ∷ []) $ use1 W (raw (fact 𝓤 (Said r))) (said r) $ heard ! (Said r) (λ e. split ! $ move ! (1 ∷ []) $
             -- [the result; the token; what the record owns; _3; …; _2; …; _1; …; room for _0; …]
             peeks ! S (Is S) (shows 𝓤 H A S) r (u ∷ []) (λ is.
             land ! (from ! (stop !)) (init ! 9 refl (typed r _ is .0)) $
             returns ! (look ! 9 refl) $ forget ! 3 refl $ forget ! 5 refl $ forget ! 7 refl $ forget ! 9 refl $
-            move ! (9 ∷ 10 ∷ []) $ free1 ! $ move ! (7 ∷ 8 ∷ []) $ free1 ! $ move ! (5 ∷ 6 ∷ []) $ free1 ! $ move ! (3 ∷ 4 ∷ []) $ free1 ! $ free0 ! $ by ! (exits r u e)))))))))
+            move ! (9 ∷ 10 ∷ []) $ free1 ! $ move ! (7 ∷ 8 ∷ []) $ free1 ! $ move ! (5 ∷ 6 ∷ []) $ free1 ! $ move ! (3 ∷ 4 ∷ []) $ free1 ! $ free0 ! $ by !
+            (exits r u e)))))))))
 
     walks : (C : Calls 𝓤 H) (Λ : Loops 𝓤 H) → FmC 𝓤 H (W .laws) C → Triple 𝓤 (C callee) (At 𝓤 H A) → Walks 𝓤 H A ended stayed (WpFn 𝓤 H C Λ thin) (clauses 𝓤)
-    walks C Λ fm known = walked 𝓤 H A ended stayed (clauses 𝓤) (WpFn 𝓤 H C Λ thin) (λ κs. (LL.vals (T.the-type (namedLft 1 0 tt κs)) (T′.the-laws (namedLft 1 0 tt κs)), tt)) (λ κs. (LL.tells (T.the-type (namedLft 1 0 tt κs)) (T′.the-laws (namedLft 1 0 tt κs)), tt))
-        (λ κs qs bounds a g are. via 𝓤 _ (fst∗ 𝓤 _ (emp 𝓤)) (walk (κs .0) (qs .0) (a .0) C Λ fm known (LL.lawful (T.the-type (namedLft 1 0 tt κs)) (T′.the-laws (namedLft 1 0 tt κs)) 𝓤 H A W .typed (a .0) _ (are .0) .0)))
+    walks C Λ fm known = walked 𝓤 H A ended stayed (clauses 𝓤) (WpFn 𝓤 H C Λ thin)
+        (λ κs. (LL.vals (T.the-type (namedLft 1 0 tt κs)) (T′.the-laws (namedLft 1 0 tt κs)), tt))
+        (λ κs. (LL.tells (T.the-type (namedLft 1 0 tt κs)) (T′.the-laws (namedLft 1 0 tt κs)), tt))
+        (λ κs qs bounds a g are. via 𝓤 _ (fst∗ 𝓤 _ (emp 𝓤))
+        (walk (κs .0) (qs .0) (a .0) C Λ fm known
+        (LL.lawful (T.the-type (namedLft 1 0 tt κs)) (T′.the-laws (namedLft 1 0 tt κs)) 𝓤 H A W .typed (a .0) _ (are .0) .0)))
 
     -- the law: the thin function meets its contract, if the callee meets its own
-    pub thin-meets : (𝓣 : Tables 𝓤 H) → Triple 𝓤 (𝓣 .C callee) (At 𝓤 H A) → Meets 𝓤 H A (ended .signature) (WpFn 𝓤 H (𝓣 .C) (𝓣 .Λ) thin) (closing 𝓤 H A ended (clauses 𝓤))
-    thin-meets 𝓣 known = walk-meets 𝓤 H A ended stayed W (goes-none 𝓤 H A W 1 B yes (λ κs x f. refl), tt) (clauses 𝓤) (WpFn 𝓤 H (𝓣 .C) (𝓣 .Λ) thin) (WpFn-mono 𝓤 H (W .laws) 𝓣 thin)
+    pub thin-meets : (𝓣 : Tables 𝓤 H) → Triple 𝓤 (𝓣 .C callee) (At 𝓤 H A)
+        → Meets 𝓤 H A (ended .signature) (WpFn 𝓤 H (𝓣 .C) (𝓣 .Λ) thin) (closing 𝓤 H A ended (clauses 𝓤))
+    thin-meets 𝓣 known = walk-meets 𝓤 H A ended stayed W (goes-none 𝓤 H A W 1 B yes (λ κs x f. refl), tt) (clauses 𝓤) (WpFn 𝓤 H (𝓣 .C) (𝓣 .Λ) thin)
+        (WpFn-mono 𝓤 H (W .laws) 𝓣 thin)
         (walks (𝓣 .C) (𝓣 .Λ) (fmOf 𝓤 H (W .laws) 𝓣) known)
 
   -- ---- what a walk needs that calls a thin function, on the record d with the machine value u: what it asks, and what is then known of its result
@@ -214,13 +228,16 @@ module _ (S : RattleType) (τ : Ty) (callee : Name) (P : List ℕ → ℕ → S 
     to-thin = (((κ, tt), (q, tt), tt, (d, tt), (u ∷ [], tt)), tt)
 
     pub goes-thin : ent 𝓤 (⋆ 𝓤 H A (‵ (B (κ, tt) .own d (u ∷ [])) ∷ (‵ (flft κ q) ⊛ ‵ ftrue) ∷ [])) (Of 𝓤 H A .pre to-thin)
-    goes-thin = qed W (‵ (B (κ, tt) .own d (u ∷ [])) ∷ (‵ (flft κ q) ⊛ ‵ ftrue) ∷ []) ∵ nothing ! $ move ! (1 ∷ 0 ∷ []) $ fjoin ! $ move ! (1 ∷ 0 ∷ []) $ join ! $ frame ! $ done !
+    goes-thin = qed W (‵ (B (κ, tt) .own d (u ∷ [])) ∷ (‵ (flft κ q) ⊛ ‵ ftrue) ∷ []) ∵ nothing ! $ move ! (1 ∷ 0 ∷ []) $ fjoin ! $ move !
+        (1 ∷ 0 ∷ []) $ join ! $ frame ! $ done !
 
     thin-said : (r : S .Denot) → ent 𝓤 (ensured 𝓤 H A ended (clauses 𝓤) (κ, tt) (d, tt) tt r) (fact 𝓤 (P (now (d .path)) (d .at) r))
     thin-said r = exE 𝓤 _ (λ ws. snd∗ 𝓤 (sem 𝓤 H A (lasts ended (κ, tt) (d, tt) ws)) (fact 𝓤 (P (now (d .path)) (d .at) r)))
 
     pub thin-told : {K : Type 0} {Γ : List (Item 𝓤)} {G : Goal 𝓤 H} → K → Soaks G → (w : Val)
-        → ((r : S .Denot) → P (now (d .path)) (d .at) r → Is S r (w ∷ []) → Seq K W (‵ (S .own r (w ∷ [])) ∷ (‵ (flft κ q) ⊛ ‵ ftrue) ∷ Γ) G) → Seq K W (raw (Of 𝓤 H A .post to-thin w) ∷ Γ) G
+        → ((r : S .Denot) → P (now (d .path)) (d .at) r → Is S r (w ∷ []) → Seq K W (‵ (S .own r (w ∷ [])) ∷ (‵ (flft κ q) ⊛ ‵ ftrue) ∷ Γ) G)
+        → Seq K W (raw (Of 𝓤 H A .post to-thin w) ∷ Γ) G
     thin-told t z w k =
-        use1 W (later (some (λ (r : S .Denot). ((‵ (flft κ q) ⊛ ‵ ftrue) ⊛ ‵ (S .own r (w ∷ []))) ⊛ raw (ensured 𝓤 H A ended (clauses 𝓤) (κ, tt) (d, tt) tt r)))) (id⊢ 𝓤 _) $
+        use1 W (later (some (λ (r : S .Denot). ((‵ (flft κ q) ⊛ ‵ ftrue) ⊛ ‵ (S .own r (w ∷ []))) ⊛ raw
+        (ensured 𝓤 H A ended (clauses 𝓤) (κ, tt) (d, tt) tt r)))) (id⊢ 𝓤 _) $
         returned t z S (P (now (d .path)) (d .at)) thin-said k

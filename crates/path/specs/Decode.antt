@@ -9,8 +9,8 @@ use Rattle.definition.specs.Bytes.{u16At, u32At}
 use Rattle.definition.specs.Segment.{Kind, portKind, classKind, instanceKind, elementKind, attributeKind, symbolKind, noKind, kindOf}
 use Rattle.path.specs.declared.Segment.{Segment}
 use Rattle.path.specs.declared.Segment.the-variants.{Port, Class, Instance, Element, Attribute, Symbol, Invalid}
-use Rattle.path.specs.declared.Value.{Value}
-use Rattle.path.specs.declared.Value.the-variants.{Of, Cut}
+use Rattle.path.specs.declared.LogicalValue.{LogicalValue}
+use Rattle.path.specs.declared.LogicalValue.the-variants.{Of, Cut}
 use Rattle.path.specs.declared.Part.{Part}
 use Rattle.path.specs.declared.Part.the-variants.{From, Short}
 
@@ -40,13 +40,13 @@ entryOf b = 4 * kindNumber (kindOf b) + formNumber (kindOf b) b
 
 -- ---- the decoder
 
-abbrev pub valueAt : List ℕ → ℕ → ℕ → Value
+abbrev pub valueAt : List ℕ → ℕ → ℕ → LogicalValue
 valueAt s at f =
     pick (eqb f 0) (pick (leb (at + 1) (length s)) (Of (getD s at 0) (at + 1)) Cut)
     (pick (eqb f 1) (pick (leb (at + 3) (length s)) (Of (u16At s (at + 1)) (at + 3)) Cut)
     (pick (leb (at + 5) (length s)) (Of (u32At s (at + 1)) (at + 5)) Cut))
 
-abbrev pub logicalOf : ℕ → Value → Segment
+abbrev pub logicalOf : ℕ → LogicalValue → Segment
 logicalOf k (Of x next) = pick (eqb k 2) (Class x next) (pick (eqb k 3) (Instance x next) (pick (eqb k 4) (Element x next) (Attribute x next)))
 logicalOf k Cut = Invalid
 

@@ -300,7 +300,7 @@ pub enum Segment {
 }
 
 /// A value and the position after it.
-enum Value {
+enum LogicalValue {
     Of(u32, usize),
     Cut,
 }
@@ -318,33 +318,33 @@ fn entry_of(b: u8) -> u8
 }
 
 /// The value of a logical segment's form at a position.
-fn value_at(path: &[u8], at: usize, form: u8) -> Value
+fn value_at(path: &[u8], at: usize, form: u8) -> LogicalValue
     requires { ⌜ at ≤ length (now path) ⌝ }
     ensures { λ r. ⌜ r ≡ valueAt (now (path .entry)) at form ⌝ }
 {
     if form == 0 {
         if at + 1 <= path.len() {
-            return Value::Of(numbers::word8(path[at]), at + 1);
+            return LogicalValue::Of(numbers::word8(path[at]), at + 1);
         }
-        return Value::Cut;
+        return LogicalValue::Cut;
     }
     if form == 1 {
         if at + 3 <= path.len() {
-            return Value::Of(numbers::word16(cip::u16_at(path, at + 1)), at + 3);
+            return LogicalValue::Of(numbers::word16(cip::u16_at(path, at + 1)), at + 3);
         }
-        return Value::Cut;
+        return LogicalValue::Cut;
     }
     if at + 5 <= path.len() {
-        return Value::Of(cip::u32_at(path, at + 1), at + 5);
+        return LogicalValue::Of(cip::u32_at(path, at + 1), at + 5);
     }
-    Value::Cut
+    LogicalValue::Cut
 }
 
-fn logical_of(kind: u8, v: Value) -> Segment
+fn logical_of(kind: u8, v: LogicalValue) -> Segment
     ensures { λ r. ⌜ r ≡ logicalOf kind v ⌝ }
 {
     match v {
-        Value::Of(x, next) => {
+        LogicalValue::Of(x, next) => {
             if kind == 2 {
                 return Segment::Class(x, next);
             }
@@ -356,7 +356,7 @@ fn logical_of(kind: u8, v: Value) -> Segment
             }
             Segment::Attribute(x, next)
         }
-        Value::Cut => Segment::Invalid,
+        LogicalValue::Cut => Segment::Invalid,
     }
 }
 

@@ -46,7 +46,8 @@ module _ (names : List ℕ) (n : ℕ) where
       ≡ both (every (otherEncoded (length names) n) rows) (both (every (λ r. isName (otherName names r)) rows) (every (λ r. ltb 0 (otherId r)) rows))
   other-rows rows = ap (λ p. every p rows) (fun-ext other-row) ∙ simp every-both
 
-program-rows : (names : List ℕ) (rows : List Row) → every (programJudged names) rows ≡ both (every (nameStored (length names)) rows) (every (λ r. isName (programName names r)) rows)
+program-rows : (names : List ℕ) (rows : List Row)
+    → every (programJudged names) rows ≡ both (every (nameStored (length names)) rows) (every (λ r. isName (programName names r)) rows)
 unfolding programJudged nameJudged
 program-rows names rows = every-both _ _ rows
 
@@ -58,7 +59,8 @@ module _ (structures : List Row) (tagNames : List ℕ) (programs memory : ℕ) w
   tag-row r = equal-tests _ _ (λ e. search regroup depth 20) (λ e. search regroup depth 20)
 
   tag-rows : (rows : List Row) → every (tagJudged structures tagNames programs memory) rows
-      ≡ both (both (every (tagEncoded (length tagNames) programs) rows) (both (every (λ r. leb (tagAccess r) 3) rows) (every (λ r. isName (tagName tagNames r)) rows)))
+      ≡ both (both (every (tagEncoded (length tagNames) programs) rows)
+      (both (every (λ r. leb (tagAccess r) 3) rows) (every (λ r. isName (tagName tagNames r)) rows)))
       (both (every (λ r. ltb 0 (tagId r)) rows) (both (every (tagFits (length structures)) rows) (every (λ r. leb (endIn structures r) memory) rows)))
   tag-rows rows = ap (λ p. every p rows) (fun-ext tag-row) ∙ simp every-both
 
@@ -81,12 +83,27 @@ counted t memory = simp both-assoc
 
 -- the tests of structures, members, programs, tags, other symbols and of pairs of them, by tables and by rules
 by-rules : (c s₁ s₂ s₃ m₁ m₂ m₃ m₄ p₁ p₂ t₁ t₂ t₃ t₄ t₅ t₆ o₁ o₂ o₃ tt₁ tt₂ tt₃ to₁ to₂ oo pp : Bool)
-    → both c (both (both (both s₁ s₂) s₃) (both (both (both m₁ m₂) (both m₃ m₄)) (both (both p₁ p₂) (both (both (both t₁ (both t₂ t₃)) (both t₄ (both t₅ t₆))) (both (both o₁ (both o₂ o₃)) (both (both tt₁ (both tt₂ tt₃)) (both (both to₁ to₂) (both oo pp))))))))
-    ≡ both (both s₁ (both m₁ (both p₁ (both t₁ o₁)))) (both (both c (both t₂ m₂)) (both (both s₂ (both m₃ (both p₂ (both t₃ (both o₂ (both tt₁ (both to₁ pp))))))) (both (both t₄ (both o₃ (both tt₂ (both oo to₂)))) (both (both s₃ m₄) (both t₅ (both t₆ tt₃))))))
+    → both c (both (both (both s₁ s₂) s₃)
+    (both (both (both m₁ m₂) (both m₃ m₄))
+    (both (both p₁ p₂) (both (both (both t₁ (both t₂ t₃)) (both t₄ (both t₅ t₆)))
+    (both (both o₁ (both o₂ o₃)) (both (both tt₁ (both tt₂ tt₃)) (both (both to₁ to₂) (both oo pp))))))))
+    ≡ both (both s₁ (both m₁ (both p₁ (both t₁ o₁))))
+    (both (both c (both t₂ m₂)) (both (both s₂ (both m₃ (both p₂ (both t₃ (both o₂ (both tt₁ (both to₁ pp)))))))
+    (both (both t₄ (both o₃ (both tt₂ (both oo to₂)))) (both (both s₃ m₄) (both t₅ (both t₆ tt₃))))))
 by-rules c s₁ s₂ s₃ m₁ m₂ m₃ m₄ p₁ p₂ t₁ t₂ t₃ t₄ t₅ t₆ o₁ o₂ o₃ tt₁ tt₂ tt₃ to₁ to₂ oo pp =
     equal-tests _ _ (λ e. search regroup depth 40 fits 5000) (λ e. search regroup depth 40 fits 5000)
 
 pub judged-is-valid : (t : Tables) (memory : ℕ) → judged t memory ≡ valid t memory
 unfolding judged pairsJudged valid encoded t2 t3 t4 t5 t6
 judged-is-valid t memory =
-    rw (counted, structure-rows, member-rows, program-rows, tag-rows, other-rows, tag-pairs, tags-and-others (t .tagNames) (t .names) (t .tags) (t .others), by-rules)
+    rw (
+      counted,
+      structure-rows,
+      member-rows,
+      program-rows,
+      tag-rows,
+      other-rows,
+      tag-pairs,
+      tags-and-others (t .tagNames) (t .names) (t .tags) (t .others),
+      by-rules,
+    )

@@ -65,18 +65,25 @@ module _ (F F′ G G′ : Row → ℕ) (tags others : List Row) (lo hi : List �
   pub tags-clear : (p : Row → Row → Bool) → ((a b : Row) → clear F F′ F F′ a b ≡ true → p a b ≡ true) → pairs p tags ≡ true
   tags-clear p f =
       pairs-by p [] tags
-      (λ i j h l. f _ _ (rw (tag-of F′ G′ tags others i (omega arith), tag-of F′ G′ tags others j l, tag-of F G tags others i (omega arith), tag-of F G tags others j l) at (at i j h (omega arith))))
+      (λ i j h l. f _ _ (rw (
+        tag-of F′ G′ tags others i (omega arith),
+        tag-of F′ G′ tags others j l,
+        tag-of F G tags others i (omega arith),
+        tag-of F G tags others j l,
+      ) at (at i j h (omega arith))))
 
   pub both-clear : (p : Row → Row → Bool) → ((a b : Row) → clear F F′ G G′ a b ≡ true → p a b ≡ true) → every (λ a. every (p a) others) tags ≡ true
   both-clear p f =
       every-by (λ a. every (p a) others) [] tags
       (λ i l. every-by (p (getD tags i [])) [] others
-      (λ j h. f _ _ (rw (tag-of F′ G′ tags others i l, other-of F′ G′ tags others j, tag-of F G tags others i l, other-of F G tags others j) at (at i (length tags + j) (omega arith) (omega arith)))))
+      (λ j h. f _ _ (rw (tag-of F′ G′ tags others i l, other-of F′ G′ tags others j, tag-of F G tags others i l, other-of F G tags others j) at
+      (at i (length tags + j) (omega arith) (omega arith)))))
 
   pub others-clear : (p : Row → Row → Bool) → ((a b : Row) → clear G G′ G G′ a b ≡ true → p a b ≡ true) → pairs p others ≡ true
   others-clear p f =
       pairs-by p [] others
-      (λ i j h l. f _ _ (rw (other-of F′ G′ tags others i, other-of F′ G′ tags others j, other-of F G tags others i, other-of F G tags others j) at (at (length tags + i) (length tags + j) (omega arith) (omega arith))))
+      (λ i j h l. f _ _ (rw (other-of F′ G′ tags others i, other-of F′ G′ tags others j, other-of F G tags others i, other-of F G tags others j) at
+      (at (length tags + i) (length tags + j) (omega arith) (omega arith))))
 
 -- ---- what clear spans say
 
@@ -108,12 +115,14 @@ apart-others x y h = not-clear (2 * x + 2) (2 * y + 1) (2 * y + 1) (2 * x) (omeg
 apart-ids : (x y : ℕ) → x ≡ y → either (leb (x + 1) y) (leb (y + 1) x) ≡ true → ⊥
 apart-ids x y h = not-clear (x + 1) y (y + 1) x (omega arith) (omega arith)
 
-tag-names : (tagNames : List ℕ) (a b : Row) → clear (tagFirst tagNames) (tagLast tagNames) (tagFirst tagNames) (tagLast tagNames) a b ≡ true → tagNamesDiffer tagNames a b ≡ true
+tag-names : (tagNames : List ℕ) (a b : Row) → clear (tagFirst tagNames) (tagLast tagNames) (tagFirst tagNames) (tagLast tagNames) a b ≡ true
+    → tagNamesDiffer tagNames a b ≡ true
 unfolding tagNamesDiffer
 tag-names tagNames a b e =
     unlike _ _ e (λ t. apart-tags (tagKey tagNames a) (tagKey tagNames b) (same-names (tagScope a) (tagScope b) (tagName tagNames a) (tagName tagNames b) t))
 
-other-names : (tagNames names : List ℕ) (a b : Row) → clear (tagFirst tagNames) (tagLast tagNames) (otherFirst names) (otherFirst names) a b ≡ true → otherNamesDiffer tagNames names a b ≡ true
+other-names : (tagNames names : List ℕ) (a b : Row) → clear (tagFirst tagNames) (tagLast tagNames) (otherFirst names) (otherFirst names) a b ≡ true
+    → otherNamesDiffer tagNames names a b ≡ true
 unfolding otherNamesDiffer
 other-names tagNames names a b e =
     unlike _ _ e (λ t. apart-others (tagKey tagNames a) (otherKey names b) (same-names (tagScope a) (otherScope b) (tagName tagNames a) (otherName names b) t))
@@ -154,7 +163,8 @@ bytes-far structures tags lo hi low high far =
 pub as-tag : (F G : Row → ℕ) (tags others : List Row) (k v : ℕ) → k < length tags → v ≡ F (getD tags k []) → v ≡ ofSymbol F G tags others k
 as-tag F G tags others k v h e = e ∙ sym (tag-of F G tags others k h)
 
-pub as-other : (F G : Row → ℕ) (tags others : List Row) (k j v : ℕ) → length tags ≤ k → j ≡ k - length tags → v ≡ G (getD others j []) → v ≡ ofSymbol F G tags others k
+pub as-other : (F G : Row → ℕ) (tags others : List Row) (k j v : ℕ) → length tags ≤ k → j ≡ k - length tags → v ≡ G (getD others j [])
+    → v ≡ ofSymbol F G tags others k
 as-other F G tags others k j v h q e =
     let z : k ≡ length tags + j = omega arith in
     e ∙ sym (rw z (other-of F G tags others j))
@@ -169,7 +179,8 @@ module _ (structures tags others : List Row) (names tagNames : List ℕ) where
   unfolding symbolsJudged
   all-sure b i n = rw (tag-pairs structures tagNames tags, tags-and-others tagNames names tags others, n .0, i .0, b, n .1, i .1, i .2)
 
-  pub programs-left : (programs : List Row) (r : Bool) → symbolsJudged structures tags others names tagNames ≡ true → r ≡ pairs (programNamesDiffer names) programs
+  pub programs-left : (programs : List Row) (r : Bool) → symbolsJudged structures tags others names tagNames ≡ true
+      → r ≡ pairs (programNamesDiffer names) programs
       → r ≡ pairsJudged structures programs tags others names tagNames
   unfolding symbolsJudged pairsJudged
   programs-left programs r e q =

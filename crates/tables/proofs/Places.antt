@@ -27,7 +27,8 @@ behind xs ys d k n e h =
     ap (λ m. getD (xs ++ ys) m d) z ∙ getD-append-add xs ys (n - k) d
 
 -- in a part that is made of rules
-in-part : {A B : Type 0} (f : A → B) (rules : List A) (ys : List B) (a : A) (d : B) (n : ℕ) → n < length rules → getD (map f rules ++ ys) n d ≡ f (getD rules n a)
+in-part : {A B : Type 0} (f : A → B) (rules : List A) (ys : List B) (a : A) (d : B) (n : ℕ) → n < length rules
+    → getD (map f rules ++ ys) n d ≡ f (getD rules n a)
 in-part f [] ys a d n h = absurd (omega arith)
 in-part f (x ∷ rules) ys a d zero h = refl
 in-part f (x ∷ rules) ys a d (suc n) h = in-part f rules ys a d n (omega arith)
@@ -145,7 +146,8 @@ module _ (t : Tables) (memory : ℕ) where
   from-are i = refl
 
   upto-are : (i : ℕ) → map (λ x. x .upto i) (tests t memory)
-      ≡ map (λ x. pick (eqb (x .otherTable) 1) (min (firstMember (structureAt t i) + memberCount (structureAt t i)) (length (t .members))) (counted (x .table))) (tests t memory)
+      ≡ map (λ x. pick (eqb (x .otherTable) 1) (min (firstMember (structureAt t i) + memberCount (structureAt t i)) (length (t .members)))
+      (counted (x .table))) (tests t memory)
   unfolding tests counts structureRules memberRules programRules tagRules otherRules clashes
   upto-are i = refl
 

@@ -13,64 +13,64 @@ const NAME: usize = 0;
 const SYMBOL_NAME: usize = 1;
 
 /// A part of a store of names.
-pub struct Part {
+pub struct StoredName {
     pub start: u32,
     pub length: u32,
 }
 
 /// The name of a row that is not there.
-fn nothing() -> Part {
-    Part {
+fn nothing() -> StoredName {
+    StoredName {
         start: 0,
         length: 0,
     }
 }
 
-pub fn of_structure(structures: &[[u32; 10]], row: usize) -> Part {
+pub fn of_structure(structures: &[[u32; 10]], row: usize) -> StoredName {
     if row >= structures.len() {
         return nothing();
     }
-    Part {
+    StoredName {
         start: structures[row][NAME],
         length: structures[row][NAME + 1],
     }
 }
 
-pub fn of_member(members: &[[u32; 9]], row: usize) -> Part {
+pub fn of_member(members: &[[u32; 9]], row: usize) -> StoredName {
     if row >= members.len() {
         return nothing();
     }
-    Part {
+    StoredName {
         start: members[row][NAME],
         length: members[row][NAME + 1],
     }
 }
 
-pub fn of_program(programs: &[[u32; 2]], row: usize) -> Part {
+pub fn of_program(programs: &[[u32; 2]], row: usize) -> StoredName {
     if row >= programs.len() {
         return nothing();
     }
-    Part {
+    StoredName {
         start: programs[row][NAME],
         length: programs[row][NAME + 1],
     }
 }
 
-pub fn of_tag(tags: &[[u32; 12]], row: usize) -> Part {
+pub fn of_tag(tags: &[[u32; 12]], row: usize) -> StoredName {
     if row >= tags.len() {
         return nothing();
     }
-    Part {
+    StoredName {
         start: tags[row][SYMBOL_NAME],
         length: tags[row][SYMBOL_NAME + 1],
     }
 }
 
-pub fn of_other(others: &[[u32; 5]], row: usize) -> Part {
+pub fn of_other(others: &[[u32; 5]], row: usize) -> StoredName {
     if row >= others.len() {
         return nothing();
     }
-    Part {
+    StoredName {
         start: others[row][SYMBOL_NAME],
         length: others[row][SYMBOL_NAME + 1],
     }
@@ -88,7 +88,7 @@ fn quoted(name: &[u8]) {
 }
 
 /// A name in quotes. An empty one is left out, and so is one that does not stand in its store, of which only a piece is there.
-pub fn show(store: &[u8], p: Part) {
+pub fn show(store: &[u8], p: StoredName) {
     let name = part_of(store, p.start, p.length);
     if name.len() == 0 {
         return;
