@@ -12,6 +12,10 @@ use borrow.Author.Needs.{needs}
 use Rattle.whole.proofs.read_whole.Statement.{statement}
 use Rattle.whole.proofs.read_whole.Tie as tie
 
+-- Earlier places, as later ones see them.
+abbrev start-from-is-sendable : tie.After-is-sendable → tie.Start
+start-from-is-sendable c = c .before .before .before .before .before .before .before .before
+
 returns : tie.Need-returns
 unfolding wholeRead
 returns c = let s = ap not (c .before .is-sendable .ensures) in (search (chain, by-call), refl)
@@ -23,8 +27,8 @@ returns-2 c = let s = ap not (c .before .before .is-sendable .ensures) in (searc
 returns-3 : tie.Need-returns-3
 unfolding wholeRead
 returns-3 c =
-    let is-sendable = c .before .before .before .before .is-sendable in
-    let args = c .before .before .before .before .before .before .before .before .before .before .before .before .args in
+    let back = c .before .before .before .before in let is-sendable = back .is-sendable in
+    let args = start-from-is-sendable back .args in
     let s = ap not (is-sendable .ensures) in
     let b = lt-ltb (length (args .buf .now)) (room (args .limit))
     (omega (arith, c .before .room-of .ensures, c .if3 .taken)) in
@@ -33,11 +37,10 @@ returns-3 c =
 returns-4 : tie.Need-returns-4
 unfolding wholeRead
 returns-4 c =
-    let if3 = c .before .before .before .if3 in
-    let room-of = c .before .before .before .before .room-of in
-    let is-sendable = c .before .before .before .before .before .before .before .is-sendable in
-    let args = c .before .before .before .before .before .before .before .before .before .before .before .before .before
-    .before .before .args in
+    let back = c .before .before .before in let if3 = back .if3 in
+    let room-of = back .before .room-of in
+    let back = back .before .before .before .before in let is-sendable = back .is-sendable in
+    let args = start-from-is-sendable back .args in
     let s = ap not (is-sendable .ensures) in
     let b = le-ltb (length (args .buf .now)) (room (args .limit)) (omega (arith, room-of .ensures, if3 .left)) in
     let v = ap not (c .before .valid .ensures) in
@@ -45,13 +48,13 @@ returns-4 c =
 
 read-sendable-requires : tie.Need-read-sendable-requires
 read-sendable-requires c κs =
-    let if4 = c .before .before .before .if4 in
-    let valid = c .before .before .before .before .valid in
-    let if3 = c .before .before .before .before .before .before .if3 in
-    let room-of = c .before .before .before .before .before .before .before .room-of in
-    let if2 = c .before .before .before .before .before .before .before .before .if2 in
-    let if1 = c .before .before .before .before .before .before .before .before .before .if1 in
-    let is-sendable = c .before .before .before .before .before .before .before .before .before .before .is-sendable in
+    let back = c .before .before .before in let if4 = back .if4 in
+    let valid = back .before .valid in
+    let back = back .before .before .before in let if3 = back .if3 in
+    let room-of = back .before .room-of in
+    let back = back .before .before in let if2 = back .if2 in
+    let if1 = back .before .if1 in
+    let is-sendable = back .before .before .is-sendable in
     record {
       sendable = sym (is-sendable .ensures) ∙ not-false _ (if1 .left);
       limit-fits = if2 .left;
@@ -61,19 +64,14 @@ read-sendable-requires c κs =
 
 returns-5 : tie.Need-returns-5
 returns-5 c =
-    let read-sendable = c .before .before .before .before .before .before .read-sendable in
-    let if4 = c .before .before .before .before .before .before .before .before .before .before .if4 in
-    let valid = c .before .before .before .before .before .before .before .before .before .before .before .valid in
-    let if3 = c .before .before .before .before .before .before .before .before .before .before .before .before .before
-    .if3 in
-    let room-of = c .before .before .before .before .before .before .before .before .before .before .before .before
-    .before .before .room-of in
-    let if2 = c .before .before .before .before .before .before .before .before .before .before .before .before .before
-    .before .before .if2 in
-    let if1 = c .before .before .before .before .before .before .before .before .before .before .before .before .before
-    .before .before .before .if1 in
-    let is-sendable = c .before .before .before .before .before .before .before .before .before .before .before .before
-    .before .before .before .before .before .is-sendable in (
+    let back = c .before .before .before .before .before .before in let read-sendable = back .read-sendable in
+    let back = back .before .before .before .before in let if4 = back .if4 in
+    let valid = back .before .valid in
+    let back = back .before .before .before in let if3 = back .if3 in
+    let room-of = back .before .room-of in
+    let back = back .before .before in let if2 = back .if2 in
+    let if1 = back .before .if1 in
+    let is-sendable = back .before .before .is-sendable in (
       read-entered _ _ _ _ _ (record {
         sendable = sym (is-sendable .ensures) ∙ not-false _ (if1 .left);
         limit-fits = if2 .left;

@@ -26,6 +26,16 @@ abbrev μ-loop : tie.MeasureT-loop
 μ-loop structures members programs tags others names tag-names templates flags memory₀ path elements limit buf₀ out₀ header got₀ memory buf out got =
     length (chosenBytes memory₀ (chosen (tablesOf structures members programs tags others names tag-names templates) (flagsOf flags) path elements)) - got
 
+-- Earlier places, as later ones see them.
+abbrev start-from-loop : tie.At-loop Inv-loop μ-loop → tie.Start Inv-loop μ-loop
+start-from-loop c = c .before .before .before .before .before .before .before .before
+
+abbrev loop-from-join-part : tie.After-join-part Inv-loop μ-loop → tie.At-loop Inv-loop μ-loop
+loop-from-join-part c = c .before .before .before .before
+
+abbrev join-part-from-slice-known6 : tie.After-slice-known6 Inv-loop μ-loop → tie.After-join-part Inv-loop μ-loop
+join-part-from-slice-known6 c = c .before .before .before .before .before .before
+
 loop-holds : tie.Need-loop-holds Inv-loop μ-loop
 loop-holds c =
     let start = c .before .before .before .before .before .before .before in (
@@ -39,16 +49,16 @@ loop-holds c =
 
 join-part-requires : tie.Need-join-part-requires Inv-loop μ-loop
 join-part-requires c κs =
-    let loop = c .before .before .before .loop in
-    let pre = c .before .before .before .before .before .before .before .before .before .before .before .pre in
+    let back = c .before .before .before in let loop = back .loop in
+    let pre = start-from-loop back .pre in
     turn-ready _ _ _ _ (pre .0) (pre .1) (loop .inv .0) (loop .inv .4 .1) (loop .inv .3) (loop .inv .1)
 
 loop-less : tie.Need-loop-less Inv-loop μ-loop
 loop-less c =
-    let b = (let back = c .before .before .before .before .before .before .before .before .before in
+    let b = (let back = join-part-from-slice-known6 (c .before .before .before) in
     let join-part = back .join-part in
-    let back = back .before .before .before .before in let loop = back .loop in
-    let pre = back .before .before .before .before .before .before .before .before .pre in
+    let back = loop-from-join-part back in let loop = back .loop in
+    let pre = start-from-loop back .pre in
     turn-more _ (chosen-fits (pre .0) (pre .1)) (chosen-same (pre .0) (pre .1) (loop .inv .0)) (loop .inv .2)
     (loop .inv .1) (join-part .ensures .0) _ (c .before .n .given .1)) in
     omega (arith, b .0, b .1)
@@ -56,11 +66,10 @@ loop-less c =
 loop-again : tie.Need-loop-again Inv-loop μ-loop
 loop-again c =
     let n = c .before .n in
-    let join-part = c .before .before .before .before .before .before .before .before .before .join-part in
-    let loop = c .before .before .before .before .before .before .before .before .before .before .before .before .before
-    .loop in
-    let pre = c .before .before .before .before .before .before .before .before .before .before .before .before .before
-    .before .before .before .before .before .before .before .before .pre in
+    let back = join-part-from-slice-known6 (c .before .before .before) in
+    let join-part = back .join-part in
+    let back = loop-from-join-part back in let loop = back .loop in
+    let pre = start-from-loop back .pre in
     let b = turn-more _ (chosen-fits (pre .0) (pre .1)) (chosen-same (pre .0) (pre .1) (loop .inv .0)) (loop .inv .2)
     (loop .inv .1) (join-part .ensures .0) _ (n .given .1) in
     let on = chunk-on _ (chosen-fits (pre .0) (pre .1)) (chosen-same (pre .0) (pre .1) (loop .inv .0)) (loop .inv .2)
@@ -75,18 +84,18 @@ loop-again c =
 
 same-length : tie.Need-same-length Inv-loop μ-loop
 same-length c =
-    let join-part = c .before .before .before .before .before .before .before .before .before .join-part in
-    let loop = c .before .before .before .before .before .before .before .before .before .before .before .before .before
-    .loop in
+    let back = join-part-from-slice-known6 (c .before .before .before) in
+    let join-part = back .join-part in
+    let loop = loop-from-join-part back .loop in
     omega (arith, ap (λ (l : List ℕ). length l) (loop .inv .0), join-part .kept)
 
 returns : tie.Need-returns Inv-loop μ-loop
 returns c =
     let n2 = c .before .n2 in
-    let back = c .before .before .before .before .before .before .before .before .before in
+    let back = join-part-from-slice-known6 (c .before .before .before) in
     let join-part = back .join-part in
-    let back = back .before .before .before .before in let loop = back .loop in
-    let start = back .before .before .before .before .before .before .before .before in (
+    let back = loop-from-join-part back in let loop = back .loop in
+    let start = start-from-loop back in (
       turn-last _ (chosen-fits (start .pre .0) (start .pre .1))
           (chosen-same (start .pre .0) (start .pre .1) (loop .inv .0)) (loop .inv .2) (loop .inv .1) (join-part .ensures .0)
           _ (n2 .given .1),

@@ -13,21 +13,24 @@ returns c = accepted-missing _ _ (c .before .before .count-of .ensures) (c .enum
 
 all-listed-requires : tie.Need-all-listed-requires
 all-listed-requires c κs =
-    let count-of = c .before .before .before .before .count-of in
-    accepted-fits _ _ (count-of .ensures) _ _ (c .before .before .n .given .1) (c .wide16 .ensures)
+    let back = c .before .before in let n = back .n in
+    let count-of = back .before .before .count-of in
+    accepted-fits _ _ (count-of .ensures) _ _ (n .given .1) (c .wide16 .ensures)
 
 returns-2 : tie.Need-returns-2
 returns-2 c =
-    let back = c .before .before .before .before in let n = back .n in
+    let back = c .before .before in let wide16 = back .wide16 in
+    let back = back .before .before in let n = back .n in
     let count-of = back .before .before .count-of in
-    accepted-all _ _ (count-of .ensures) _ _ (n .given .1) (c .before .before .wide16 .ensures)
+    accepted-all _ _ (count-of .ensures) _ _ (n .given .1) (wide16 .ensures)
     (sym (c .before .all-listed .ensures) ∙ c .if1 .taken)
 
 returns-3 : tie.Need-returns-3
 returns-3 c =
-    let back = c .before .before .before .before in let n = back .n in
+    let back = c .before .before in let wide16 = back .wide16 in
+    let back = back .before .before in let n = back .n in
     let count-of = back .before .before .count-of in
-    accepted-unknown _ _ (count-of .ensures) _ _ (n .given .1) (c .before .before .wide16 .ensures)
+    accepted-unknown _ _ (count-of .ensures) _ _ (n .given .1) (wide16 .ensures)
     (sym (c .before .all-listed .ensures) ∙ c .if1 .left)
 
 pub accepted-spec : {M : Type 1} → statement M

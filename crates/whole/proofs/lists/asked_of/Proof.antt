@@ -9,18 +9,18 @@ returns c = asked-nowhere _ _ _ _ (c .before .before .scope-of .ensures) (c .enu
 
 returns-2 : tie.Need-returns-2
 returns-2 c =
-    let back = c .before .before .before .before in let scope = back .scope in
+    let back = c .before .before in let accepted = back .accepted in
+    let back = back .before .before in let scope = back .scope in
     let scope-of = back .before .before .scope-of in
-    asked-refused _ _ _ _ (scope-of .ensures) (scope .given .1) (c .before .before .accepted .ensures)
-    (c .enum-told2 .given .1)
+    asked-refused _ _ _ _ (scope-of .ensures) (scope .given .1) (accepted .ensures) (c .enum-told2 .given .1)
 
 returns-3 : tie.Need-returns-3
 returns-3 c =
-    let back = c .before .before .before .before in let accepted = back .accepted in
-    let scope = back .before .before .scope in
-    let scope-of = back .before .before .before .before .scope-of in
-    asked-both _ _ _ _ (scope-of .ensures) (scope .given .1) (accepted .ensures) (c .before .before .n .given .1)
-    (c .wide16 .ensures)
+    let back = c .before .before in let n = back .n in
+    let back = back .before .before in let accepted = back .accepted in
+    let back = back .before .before in let scope = back .scope in
+    let scope-of = back .before .before .scope-of in
+    asked-both _ _ _ _ (scope-of .ensures) (scope .given .1) (accepted .ensures) (n .given .1) (c .wide16 .ensures)
 
 pub asked-of-spec : {M : Type 1} → statement M
 asked-of-spec =

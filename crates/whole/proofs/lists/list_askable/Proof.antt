@@ -4,25 +4,30 @@ use borrow.Author.Needs.{needs}
 use Rattle.whole.proofs.lists.list_askable.Statement.{statement}
 use Rattle.whole.proofs.lists.list_askable.Tie as tie
 
+-- Earlier places, as later ones see them.
+abbrev start-from-slice-known3 : tie.After-slice-known3 → tie.Start
+start-from-slice-known3 c = c .before .before .before .before .before .before .before .before
+
 asked-of-requires : tie.Need-asked-of-requires
 asked-of-requires c κs =
-    let pre = c .before .before .before .before .before .before .before .before .pre in
+    let pre = start-from-slice-known3 c .pre in
     few-scopes _ _ (pre .tables)
 
 returns : tie.Need-returns
 returns c =
     let back = c .before .before .before .before in let first-page = back .first-page in
-    let enum-told = back .before .before .before .enum-told in
-    let asked-of = back .before .before .before .before .before .asked-of in (
-      list-turned _ _ _ _ (asked-nothing _ _ _ (asked-of .ensures) (enum-told .given .1)) (first-page .ensures .0) (first-page .ensures .2),
+    let back = back .before .before .before in let enum-told = back .enum-told in
+    let asked-of = back .before .before .asked-of in (
+      list-turned _ _ _ _ (asked-nothing _ _ _ (asked-of .ensures) (enum-told .given .1)) (first-page .ensures .0)
+          (first-page .ensures .2),
       first-page .ensures .1,
     )
 
 list-granted-requires : tie.Need-list-granted-requires
 list-granted-requires c κs =
     let back = c .before .before .before .before in let scope = back .scope in
-    let asked-of = back .before .before .asked-of in
-    let pre = back .before .before .before .before .before .before .before .before .before .before .before .pre in
+    let back = back .before .before in let asked-of = back .asked-of in
+    let pre = start-from-slice-known3 (back .before) .pre in
     (pre, asked-granted _ _ _ (asked-of .ensures) (scope .given .1))
 
 pub list-askable-spec : {M : Type 1} → statement M

@@ -7,46 +7,44 @@ use borrow.Author.Needs.{needs}
 use Rattle.whole.proofs.lists.list_granted.Statement.{statement}
 use Rattle.whole.proofs.lists.list_granted.Tie as tie
 
+-- Earlier places, as later ones see them.
+abbrev start-from-slice-known3 : tie.After-slice-known3 → tie.Start
+start-from-slice-known3 c = c .before .before .before .before .before .before .before .before
+
 returns : tie.Need-returns
 returns c =
-    let pre = c .before .before .before .before .before .before .before .before .before .pre in
+    let pre = start-from-slice-known3 (c .before) .pre in
     (list-tiny (pre .1) _ _ _ _ (c .if1 .taken), refl)
 
 measured-requires : tie.Need-measured-requires
 measured-requires c κs = (
-  some-tables _ _ _ _ _ _ _ _ _
-      (c .before .before .before .before .before .before .before .before .before .pre .0 .tables),
-  c .before .before .before .before .before .before .before .before .before .pre .1 .list-fits,
-  let pre = c .before .before .before .before .before .before .before .before .before .pre in
+  some-tables _ _ _ _ _ _ _ _ _ (start-from-slice-known3 (c .before) .pre .0 .tables),
+  start-from-slice-known3 (c .before) .pre .1 .list-fits,
+  let pre = start-from-slice-known3 (c .before) .pre in
       few-numbers (pre .0) (pre .1),
   search needs,
-  c .before .before .before .before .before .before .before .before .before .pre .0 .limit-fits,
+  start-from-slice-known3 (c .before) .pre .0 .limit-fits,
 )
 
 returns-2 : tie.Need-returns-2
 returns-2 c =
-    let pre = c .before .before .before .before .before .before .before .before .before .before .before .before .pre in (
-      list-narrow (pre .1) _ _ _ _ (c .before .before .measured .ensures _ _ _ _ (pre .0 .tables))
-          (c .enum-told .given .1),
-      refl,
-    )
+    let back = c .before .before in let measured = back .measured in
+    let pre = start-from-slice-known3 (back .before .before) .pre in
+    (list-narrow (pre .1) _ _ _ _ (measured .ensures _ _ _ _ (pre .0 .tables)) (c .enum-told .given .1), refl)
 
 returns-3 : tie.Need-returns-3
 returns-3 c =
-    let back = c .before .before .before .before in let measured = back .measured in
-    let pre = back .before .before .before .before .before .before .before .before .before .before .pre in (
-      list-short (pre .1) _ _ _ _ (measured .ensures _ _ _ _ (pre .0 .tables)) (c .before .before .total .given .1)
-          (c .if2 .taken),
-      refl,
-    )
+    let back = c .before .before in let total = back .total in
+    let back = back .before .before in let measured = back .measured in
+    let pre = start-from-slice-known3 (back .before .before) .pre in
+    (list-short (pre .1) _ _ _ _ (measured .ensures _ _ _ _ (pre .0 .tables)) (total .given .1) (c .if2 .taken), refl)
 
 join-pages-requires : tie.Need-join-pages-requires
 join-pages-requires c κs =
-    let if2 = c .before .before .before .if2 in
-    let total = c .before .before .before .before .before .total in
-    let measured = c .before .before .before .before .before .before .before .measured in
-    let pre = c .before .before .before .before .before .before .before .before .before .before .before .before .before
-    .before .before .before .before .pre in
+    let back = c .before .before .before in let if2 = back .if2 in
+    let back = back .before .before in let total = back .total in
+    let back = back .before .before in let measured = back .measured in
+    let pre = start-from-slice-known3 (back .before .before) .pre in
     let a = list-total _ _ (measured .ensures _ _ _ _ (pre .0 .tables)) (total .given .1) in
     (pre .0, pre .1, a .1, omega (arith, a .0, if2 .left))
 
@@ -55,8 +53,8 @@ returns-4 c =
     let back = c .before .before .before .before .before .before in let join-pages = back .join-pages in
     let back = back .before .before .before .before in let if2 = back .if2 in
     let back = back .before .before in let total = back .total in
-    let measured = back .before .before .measured in
-    let pre = back .before .before .before .before .before .before .before .before .before .before .before .before .pre in (
+    let back = back .before .before in let measured = back .measured in
+    let pre = start-from-slice-known3 (back .before .before) .pre in (
       list-joined (pre .1) _ _ _ _ (measured .ensures _ _ _ _ (pre .0 .tables)) (total .given .1) (if2 .left)
           (join-pages .ensures .0) (join-pages .ensures .2),
       join-pages .ensures .1,

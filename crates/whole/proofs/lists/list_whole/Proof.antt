@@ -12,6 +12,10 @@ use borrow.Author.Needs.{needs}
 use Rattle.whole.proofs.lists.list_whole.Statement.{statement}
 use Rattle.whole.proofs.lists.list_whole.Tie as tie
 
+-- Earlier places, as later ones see them.
+abbrev start-from-is-askable : tie.After-is-askable → tie.Start
+start-from-is-askable c = c .before .before .before .before .before .before .before .before .before
+
 returns : tie.Need-returns
 unfolding wholeList
 returns c = let s = ap not (c .before .is-askable .ensures) in (search (chain, by-call), refl)
@@ -23,9 +27,8 @@ returns-2 c = let s = ap not (c .before .before .is-askable .ensures) in (search
 returns-3 : tie.Need-returns-3
 unfolding wholeList
 returns-3 c =
-    let is-askable = c .before .before .before .before .is-askable in
-    let args = c .before .before .before .before .before .before .before .before .before .before .before .before .before
-    .args in
+    let back = c .before .before .before .before in let is-askable = back .is-askable in
+    let args = start-from-is-askable back .args in
     let s = ap not (is-askable .ensures) in
     let b = lt-ltb (length (args .buf .now)) (room (args .limit))
     (omega (arith, c .before .room-of .ensures, c .if3 .taken)) in
@@ -34,11 +37,10 @@ returns-3 c =
 returns-4 : tie.Need-returns-4
 unfolding wholeList
 returns-4 c =
-    let if3 = c .before .before .before .if3 in
-    let room-of = c .before .before .before .before .room-of in
-    let is-askable = c .before .before .before .before .before .before .before .is-askable in
-    let args = c .before .before .before .before .before .before .before .before .before .before .before .before .before
-    .before .before .before .args in
+    let back = c .before .before .before in let if3 = back .if3 in
+    let room-of = back .before .room-of in
+    let back = back .before .before .before .before in let is-askable = back .is-askable in
+    let args = start-from-is-askable back .args in
     let s = ap not (is-askable .ensures) in
     let b = le-ltb (length (args .buf .now)) (room (args .limit)) (omega (arith, room-of .ensures, if3 .left)) in
     let v = ap not (c .before .valid .ensures) in
@@ -46,13 +48,13 @@ returns-4 c =
 
 list-askable-requires : tie.Need-list-askable-requires
 list-askable-requires c κs =
-    let if4 = c .before .before .before .if4 in
-    let valid = c .before .before .before .before .valid in
-    let if3 = c .before .before .before .before .before .before .if3 in
-    let room-of = c .before .before .before .before .before .before .before .room-of in
-    let if2 = c .before .before .before .before .before .before .before .before .if2 in
-    let if1 = c .before .before .before .before .before .before .before .before .before .if1 in
-    let is-askable = c .before .before .before .before .before .before .before .before .before .before .is-askable in
+    let back = c .before .before .before in let if4 = back .if4 in
+    let valid = back .before .valid in
+    let back = back .before .before .before in let if3 = back .if3 in
+    let room-of = back .before .room-of in
+    let back = back .before .before in let if2 = back .if2 in
+    let if1 = back .before .if1 in
+    let is-askable = back .before .before .is-askable in
     record {
       askable = sym (is-askable .ensures) ∙ not-false _ (if1 .left);
       limit-fits = if2 .left;
@@ -62,19 +64,14 @@ list-askable-requires c κs =
 
 returns-5 : tie.Need-returns-5
 returns-5 c =
-    let list-askable = c .before .before .before .before .before .before .list-askable in
-    let if4 = c .before .before .before .before .before .before .before .before .before .before .if4 in
-    let valid = c .before .before .before .before .before .before .before .before .before .before .before .valid in
-    let if3 = c .before .before .before .before .before .before .before .before .before .before .before .before .before
-    .if3 in
-    let room-of = c .before .before .before .before .before .before .before .before .before .before .before .before
-    .before .before .room-of in
-    let if2 = c .before .before .before .before .before .before .before .before .before .before .before .before .before
-    .before .before .if2 in
-    let if1 = c .before .before .before .before .before .before .before .before .before .before .before .before .before
-    .before .before .before .if1 in
-    let is-askable = c .before .before .before .before .before .before .before .before .before .before .before .before
-    .before .before .before .before .before .is-askable in (
+    let back = c .before .before .before .before .before .before in let list-askable = back .list-askable in
+    let back = back .before .before .before .before in let if4 = back .if4 in
+    let valid = back .before .valid in
+    let back = back .before .before .before in let if3 = back .if3 in
+    let room-of = back .before .room-of in
+    let back = back .before .before in let if2 = back .if2 in
+    let if1 = back .before .if1 in
+    let is-askable = back .before .before .is-askable in (
       list-entered _ _ _ _ (record {
         askable = sym (is-askable .ensures) ∙ not-false _ (if1 .left);
         limit-fits = if2 .left;

@@ -11,22 +11,24 @@ returns c = scope-controller _ _ _ (c .if1 .taken)
 
 cast-t8 : tie.Need-cast-t8
 cast-t8 c =
-    let h = (let program-of = c .before .before .before .program-of in
-    let args = c .before .before .before .before .before .before .before .args in
+    let h = (let back = c .before .before .before in
+    let program-of = back .program-of in
+    let args = back .before .before .before .before .args in
     program-inside _ (args .names .now) (args .program .now) _ _ (c .before .k .given .1) (program-of .ensures)) in
     search needs
 
 add-t9 : tie.Need-add-t9
 add-t9 c =
-    let h = (let program-of = c .before .before .before .program-of in
-    let args = c .before .before .before .before .before .before .before .args in
+    let h = (let back = c .before .before .before in
+    let program-of = back .program-of in
+    let args = back .before .before .before .before .args in
     program-inside _ (args .names .now) (args .program .now) _ _ (c .before .k .given .1) (program-of .ensures)) in
     search needs
 
 returns-2 : tie.Need-returns-2
 returns-2 c =
-    let program-of = c .before .before .before .program-of in
-    let if1 = c .before .before .before .before .if1 in
+    let back = c .before .before .before in let program-of = back .program-of in
+    let if1 = back .before .if1 in
     scope-known _ _ _ (if1 .left) _ (program-of .ensures) _ _ refl (c .before .k .given .1)
 
 enum-told : tie.Need-enum-told
@@ -34,8 +36,9 @@ enum-told c = search needs
 
 returns-3 : tie.Need-returns-3
 returns-3 c =
-    let if1 = c .before .before .before .if1 in
-    scope-unknown _ _ _ (if1 .left) _ (c .before .before .program-of .ensures) (c .enum-told .given .1)
+    let back = c .before .before in let program-of = back .program-of in
+    let if1 = back .before .if1 in
+    scope-unknown _ _ _ (if1 .left) _ (program-of .ensures) (c .enum-told .given .1)
 
 pub scope-of-spec : {M : Type 1} → statement M
 scope-of-spec =

@@ -7,13 +7,11 @@ use Rattle.whole.proofs.pages.first_page.Tie as tie
 
 returns : tie.Need-returns
 returns c =
-    let send-list = c .before .before .before .before .before .send-list in
-    let args = c .before .before .before .before .before .before .before .before .before .before .before .before .before
-    .before .before .args in
-    let pre = c .before .before .before .before .before .before .before .before .before .before .before .before .before
-    .before .before .pre in
-    list-status _ _ _ _ _ _ _ (askable-short (args .program .now) (args .attributes .now) (pre .askable) .0)
-    (omega arith) _ _ _ _ (send-list .ensures)
+    let back = c .before .before .before .before .before in let send-list = back .send-list in
+    let start = back .before .before .before .before .before .before .before .before .before .before in
+    list-status _ _ _ _ _ _ _
+    (askable-short (start .args .program .now) (start .args .attributes .now) (start .pre .askable) .0) (omega arith) _
+    _ _ _ (send-list .ensures)
 
 pub first-page-spec : {M : Type 1} → statement M
 first-page-spec =

@@ -31,6 +31,22 @@ abbrev μ-loop : tie.MeasureT-loop
     memory buf out start got =
     length out₀ - got
 
+-- Earlier places, as later ones see them.
+abbrev start-from-loop : tie.At-loop Inv-loop μ-loop → tie.Start Inv-loop μ-loop
+start-from-loop c = c .before .before .before .before .before .before .before .before .before
+
+abbrev loop-from-join-page : tie.After-join-page Inv-loop μ-loop → tie.At-loop Inv-loop μ-loop
+loop-from-join-page c = c .before .before .before .before
+
+abbrev join-page-from-end2 : tie.After-end2 Inv-loop μ-loop → tie.After-join-page Inv-loop μ-loop
+join-page-from-end2 c = c .before .before .before .before .before .before .before .before
+
+abbrev join-page-from-end : tie.After-end Inv-loop μ-loop → tie.After-join-page Inv-loop μ-loop
+join-page-from-end c = c .before .before .before .before .before .before .before .before
+
+abbrev end2-from-next-start : tie.After-next-start Inv-loop μ-loop → tie.After-end2 Inv-loop μ-loop
+end2-from-next-start c = c .before .before .before
+
 loop-holds : tie.Need-loop-holds Inv-loop μ-loop
 loop-holds c =
     let pre = c .before .before .before .before .before .before .before .before .pre in
@@ -38,8 +54,8 @@ loop-holds c =
 
 join-page-requires : tie.Need-join-page-requires Inv-loop μ-loop
 join-page-requires c κs =
-    let loop = c .before .before .before .loop in
-    let pre = c .before .before .before .before .before .before .before .before .before .before .before .before .pre in (
+    let back = c .before .before .before in let loop = back .loop in
+    let pre = start-from-loop back .pre in (
       turn-askable _ _ (pre .0) (loop .inv .0) (loop .inv .1 .1),
       pre .1,
       loop .inv .3 .room-for,
@@ -49,18 +65,18 @@ join-page-requires c κs =
 
 same-length : tie.Need-same-length Inv-loop μ-loop
 same-length c =
-    let join-page = c .before .before .before .before .before .before .before .before .before .join-page in
-    let loop = c .before .before .before .before .before .before .before .before .before .before .before .before .before
-    .loop in
+    let back = join-page-from-end (c .before) in
+    let join-page = back .join-page in
+    let loop = loop-from-join-page back .loop in
     omega (arith, ap (λ (l : List ℕ). length l) (loop .inv .0), join-page .kept)
 
 returns : tie.Need-returns Inv-loop μ-loop
 returns c =
     let end = c .before .end in
-    let back = c .before .before .before .before .before .before .before .before .before in
+    let back = join-page-from-end (c .before) in
     let join-page = back .join-page in
-    let back = back .before .before .before .before in let loop = back .loop in
-    let pre = back .before .before .before .before .before .before .before .before .before .pre in (
+    let back = loop-from-join-page back in let loop = back .loop in
+    let pre = start-from-loop back .pre in (
       joins-last (loop .inv .3) (pre .3) (join-page .ensures .0) _ (end .given .1),
       join-page .ensures .1 ∙ loop .inv .0,
       page-stays (loop .inv .3) (pre .3) (join-page .ensures .0) _ _ _ (loop .inv .1) (pre .0 .has-room)
@@ -69,43 +85,43 @@ returns c =
 
 sub-size : tie.Need-sub-size Inv-loop μ-loop
 sub-size c =
-    let b = (let back = c .before .before .before .before .before .before .before .before .before in
+    let b = (let back = join-page-from-end2 (c .before) in
     let join-page = back .join-page in
-    let back = back .before .before .before .before in let loop = back .loop in
-    let pre = back .before .before .before .before .before .before .before .before .before .pre in
+    let back = loop-from-join-page back in let loop = back .loop in
+    let pre = start-from-loop back .pre in
     joins-further (loop .inv .3) (pre .3) (join-page .ensures .0) _ (c .before .end2 .given .1) .0) in
     search needs
 
 add-size : tie.Need-add-size Inv-loop μ-loop
 add-size c =
-    let b = (let back = c .before .before .before .before .before .before .before .before .before in
+    let b = (let back = join-page-from-end2 (c .before) in
     let join-page = back .join-page in
-    let back = back .before .before .before .before in let loop = back .loop in
-    let pre = back .before .before .before .before .before .before .before .before .before .pre in
+    let back = loop-from-join-page back in let loop = back .loop in
+    let pre = start-from-loop back .pre in
     joins-behind (loop .inv .3) (pre .3) (join-page .ensures .0) _ _ (due-some _ _ _ _) (c .before .end2 .given .1)
     refl .1) in
-    let l = c .before .before .before .before .before .before .before .before .before .before .before .before .before
-    .before .before .before .before .before .before .before .before .before .pre .0 .limit-fits in
+    let l = start-from-loop (loop-from-join-page (join-page-from-end2 (c .before))) .pre .0 .limit-fits in
     search needs
 
 next-start-requires : tie.Need-next-start-requires Inv-loop μ-loop
 next-start-requires c κs =
-    let join-page = c .before .before .before .before .before .before .before .before .before .before .join-page in
-    let loop = c .before .before .before .before .before .before .before .before .before .before .before .before .before
-    .before .loop in
-    let pre = c .before .before .before .before .before .before .before .before .before .before .before .before .before
-    .before .before .before .before .before .before .before .before .before .before .pre in
-    let args = c .before .before .before .before .before .before .before .before .before .before .before .before .before
-    .before .before .before .before .before .before .before .before .before .before .args in (
-      some-tables _ _ _ _ _ _ _ _ _ (pre .0 .tables),
-      pre .1 .list-fits,
-      omega (arith, pre .1 .list-fits, askable-short (args .program .now) (args .attributes .now) (pre .0 .askable)),
+    let back = c .before .before in let end2 = back .end2 in
+    let back = join-page-from-end2 back in let join-page = back .join-page in
+    let back = loop-from-join-page back in let loop = back .loop in
+    let start = start-from-loop back in (
+      some-tables _ _ _ _ _ _ _ _ _ (start .pre .0 .tables),
+      start .pre .1 .list-fits,
+      omega (
+        arith,
+        start .pre .1 .list-fits,
+        askable-short (start .args .program .now) (start .args .attributes .now) (start .pre .0 .askable),
+      ),
       omega arith,
       omega (
         arith,
-        joins-behind (loop .inv .3) (pre .3) (join-page .ensures .0) _ _ (due-some _ _ _ _)
-            (c .before .before .end2 .given .1) refl .1,
-        pre .0 .has-room,
+        joins-behind (loop .inv .3) (start .pre .3) (join-page .ensures .0) _ _ (due-some _ _ _ _) (end2 .given .1)
+            refl .1,
+        start .pre .0 .has-room,
         loop .inv .1 .1,
         join-page .kept,
       ),
@@ -113,26 +129,21 @@ next-start-requires c κs =
 
 loop-less : tie.Need-loop-less Inv-loop μ-loop
 loop-less c =
-    let b = (let back = c .before .before .before .before .before .before .before .before in
+    let b = (let back = end2-from-next-start (c .before .before .before .before .before) in
     let end2 = back .end2 in
-    let back = back .before .before .before .before .before .before .before .before in
-    let join-page = back .join-page in
-    let back = back .before .before .before .before in let loop = back .loop in
-    let pre = back .before .before .before .before .before .before .before .before .before .pre in
+    let back = join-page-from-end2 back in let join-page = back .join-page in
+    let back = loop-from-join-page back in let loop = back .loop in
+    let pre = start-from-loop back .pre in
     joins-further (loop .inv .3) (pre .3) (join-page .ensures .0) _ (end2 .given .1)) in
     omega (arith, b .0, b .1)
 
 loop-again : tie.Need-loop-again Inv-loop μ-loop
 loop-again c =
-    let next-start = c .before .before .before .before .before .next-start in
-    let end2 = c .before .before .before .before .before .before .before .before .end2 in
-    let join-page = c .before .before .before .before .before .before .before .before .before .before .before .before
-    .before .before .before .before .join-page in
-    let loop = c .before .before .before .before .before .before .before .before .before .before .before .before .before
-    .before .before .before .before .before .before .before .loop in
-    let pre = c .before .before .before .before .before .before .before .before .before .before .before .before .before
-    .before .before .before .before .before .before .before .before .before .before .before .before .before .before
-    .before .before .pre in
+    let back = c .before .before .before .before .before in let next-start = back .next-start in
+    let back = end2-from-next-start back in let end2 = back .end2 in
+    let back = join-page-from-end2 back in let join-page = back .join-page in
+    let back = loop-from-join-page back in let loop = back .loop in
+    let pre = start-from-loop back .pre in
     let b = joins-behind (loop .inv .3) (pre .3) (join-page .ensures .0) _ _ (due-some _ _ _ _) (end2 .given .1) refl in (
       join-page .ensures .1 ∙ loop .inv .0,
       page-walked (loop .inv .3) (pre .3) (join-page .ensures .0) _ _ _ (loop .inv .1) (pre .0 .has-room)
@@ -147,20 +158,18 @@ enum-told c = search needs
 
 same-length-4 : tie.Need-same-length-4 Inv-loop μ-loop
 same-length-4 c =
-    let join-page = c .before .before .before .before .before .before .before .before .before .before .before .before
-    .before .before .before .join-page in
-    let loop = c .before .before .before .before .before .before .before .before .before .before .before .before .before
-    .before .before .before .before .before .before .loop in
+    let back = join-page-from-end2 (end2-from-next-start (c .before .before .before .before)) in
+    let join-page = back .join-page in
+    let loop = loop-from-join-page back .loop in
     omega (arith, ap (λ (l : List ℕ). length l) (loop .inv .0), join-page .kept)
 
 returns-2 : tie.Need-returns-2 Inv-loop μ-loop
 returns-2 c =
     let back = c .before .before .before .before in let next-start = back .next-start in
-    let back = back .before .before .before in let end2 = back .end2 in
-    let back = back .before .before .before .before .before .before .before .before in
-    let join-page = back .join-page in
-    let back = back .before .before .before .before in let loop = back .loop in
-    let pre = back .before .before .before .before .before .before .before .before .before .pre in
+    let back = end2-from-next-start back in let end2 = back .end2 in
+    let back = join-page-from-end2 back in let join-page = back .join-page in
+    let back = loop-from-join-page back in let loop = back .loop in
+    let pre = start-from-loop back .pre in
     absurd (joins-left (loop .inv .3) (pre .3) (join-page .ensures .0) _ (end2 .given .1)
     (sym (joins-behind (loop .inv .3) (pre .3) (join-page .ensures .0) _ _ (due-some _ _ _ _) (end2 .given .1) refl .0)
     ∙ starts-nowhere _ _ _ _ _ _ _ (next-start .ensures .0 _ _ _ _ (pre .0 .tables)) (c .enum-told .given .1)))

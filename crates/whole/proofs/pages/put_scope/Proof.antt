@@ -13,21 +13,22 @@ returns-2 c =
     let back = c .before .before .before in let copy-into = back .copy-into in
     let back = back .before .before .before .before in let put-u82 = back .put-u82 in
     let back = back .before .before .before .before in let put-u8 = back .put-u8 in
-    let if1 = back .before .before .if1 in
-    let pre = back .before .before .before .before .before .pre in
+    let back = back .before .before in let if1 = back .if1 in
+    let pre = back .before .before .before .pre in
     scope-put-even _ _ _ _ _ _ (pre .0) (pre .1) (if1 .left) (put-u8 .ensures) (put-u82 .ensures) refl
     (copy-into .ensures) (c .if2 .taken)
 
 returns-3 : tie.Need-returns-3
 returns-3 c =
-    let back = c .before .before .before .before in let if2 = back .if2 in
+    let back = c .before .before in let put-u83 = back .put-u83 in
+    let back = back .before .before in let if2 = back .if2 in
     let back = back .before .before .before in let copy-into = back .copy-into in
     let back = back .before .before .before .before in let put-u82 = back .put-u82 in
     let back = back .before .before .before .before in let put-u8 = back .put-u8 in
-    let if1 = back .before .before .if1 in
-    let pre = back .before .before .before .before .before .pre in
+    let back = back .before .before in let if1 = back .if1 in
+    let pre = back .before .before .before .pre in
     scope-put-odd _ _ _ _ _ _ (pre .0) (pre .1) (if1 .left) (put-u8 .ensures) (put-u82 .ensures) refl
-    (copy-into .ensures) _ (if2 .left) (c .before .before .put-u83 .ensures)
+    (copy-into .ensures) _ (if2 .left) (put-u83 .ensures)
 
 pub put-scope-spec : {M : Type 1} → statement M
 put-scope-spec =

@@ -5,29 +5,29 @@ use borrow.Author.Needs.{needs}
 use Rattle.whole.proofs.pages.send_list.Statement.{statement}
 use Rattle.whole.proofs.pages.send_list.Tie as tie
 
+-- Earlier places, as later ones see them.
+abbrev start-from-put-list : tie.After-put-list → tie.Start
+start-from-put-list c = c .before .before .before .before .before .before .before .before .before
+
 part-dispatch-end : tie.Need-part-dispatch-end
 part-dispatch-end c =
-    let put-list = c .before .before .before .put-list in
-    let args = c .before .before .before .before .before .before .before .before .before .before .before .before .args in
-    let pre = c .before .before .before .before .before .before .before .before .before .before .before .before .pre in
+    let back = c .before .before .before in let put-list = back .put-list in
+    let start = start-from-put-list back in
     omega (
       arith,
       put-list .ensures .length-is,
-      list-short (args .program .now) (args .attributes .now) (args .id) (pre .askable),
+      list-short (start .args .program .now) (start .args .attributes .now) (start .args .id) (start .pre .askable),
       put-list .kept,
     )
 
 returns : tie.Need-returns
 returns c =
-    let dispatch = c .before .before .before .before .dispatch in
-    let put-list = c .before .before .before .before .before .before .before .before .before .before .put-list in
-    let args = c .before .before .before .before .before .before .before .before .before .before .before .before .before
-    .before .before .before .before .before .before .args in
-    let pre = c .before .before .before .before .before .before .before .before .before .before .before .before .before
-    .before .before .before .before .before .before .pre in
-    rw (list-part (args .program .now) (args .attributes .now) (args .id) _ _ _
-    (list-short (args .program .now) (args .attributes .now) (args .id) (pre .askable)) (put-list .ensures)) at
-    (dispatch .ensures)
+    let back = c .before .before .before .before in let dispatch = back .dispatch in
+    let back = back .before .before .before .before .before .before in let put-list = back .put-list in
+    let start = start-from-put-list back in
+    rw (list-part (start .args .program .now) (start .args .attributes .now) (start .args .id) _ _ _
+    (list-short (start .args .program .now) (start .args .attributes .now) (start .args .id) (start .pre .askable))
+    (put-list .ensures)) at (dispatch .ensures)
 
 pub send-list-spec : {M : Type 1} → statement M
 send-list-spec =

@@ -13,13 +13,14 @@ cast-put-u8 c =
 
 returns : tie.Need-returns
 returns c =
-    let back = c .before .before .before .before .before .before in let put-u16 = back .put-u16 in
+    let back = c .before .before in let put-u32 = back .put-u32 in
+    let back = back .before .before .before .before in let put-u16 = back .put-u16 in
     let back = back .before .before .before .before in let copy-into = back .copy-into in
     let back = back .before .before .before .before in let put-u82 = back .put-u82 in
     let back = back .before .before .before .before in let put-u8 = back .put-u8 in
     let pre = back .before .before .before .before .pre in
     request-put _ _ _ _ _ _ _ _ _ _ (pre .2) refl (put-u8 .ensures) (put-u82 .ensures) (copy-into .ensures)
-    (put-u16 .ensures) (c .before .before .put-u32 .ensures)
+    (put-u16 .ensures) (put-u32 .ensures)
 
 pub put-request-spec : {M : Type 1} → statement M
 put-request-spec =

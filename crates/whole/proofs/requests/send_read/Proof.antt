@@ -5,41 +5,43 @@ use borrow.Author.Needs.{needs}
 use Rattle.whole.proofs.requests.send_read.Statement.{statement}
 use Rattle.whole.proofs.requests.send_read.Tie as tie
 
+-- Earlier places, as later ones see them.
+abbrev start-from-put-request : tie.After-put-request → tie.Start
+start-from-put-request c = c .before .before .before .before .before .before .before .before
+
 put-request-requires : tie.Need-put-request-requires
 put-request-requires c κs =
-    let pre = c .before .before .before .before .before .before .before .pre in
-    let args = c .before .before .before .before .before .before .before .args in
-    (pre .0 .sendable, pre .1, omega (arith, sendable-words (args .path .now) (pre .0 .sendable)))
+    let start = c .before .before .before .before .before .before .before in (
+      start .pre .0 .sendable,
+      start .pre .1,
+      omega (arith, sendable-words (start .args .path .now) (start .pre .0 .sendable)),
+    )
 
 part-dispatch-end : tie.Need-part-dispatch-end
 part-dispatch-end c =
-    let put-request = c .before .before .before .put-request in
-    let args = c .before .before .before .before .before .before .before .before .before .before .before .args in
-    let pre = c .before .before .before .before .before .before .before .before .before .before .before .pre in
+    let back = c .before .before .before in let put-request = back .put-request in
+    let start = start-from-put-request back in
     omega (
       arith,
       put-request .ensures .length-is,
-      request-length (args .path .now) (args .elements) (args .offset),
-      sendable-words (args .path .now) (pre .0 .sendable),
+      request-length (start .args .path .now) (start .args .elements) (start .args .offset),
+      sendable-words (start .args .path .now) (start .pre .0 .sendable),
       put-request .kept,
     )
 
 dispatch-requires : tie.Need-dispatch-requires
 dispatch-requires c κs =
-    let pre = c .before .before .before .before .before .before .before .before .before .before .before .before .before
-    .pre in
+    let pre = start-from-put-request (c .before .before .before .before .before) .pre in
     (pre .0 .tables, pre .0 .limit-fits, pre .0 .has-room)
 
 returns : tie.Need-returns
 returns c =
-    let dispatch = c .before .before .before .before .dispatch in
-    let put-request = c .before .before .before .before .before .before .before .before .before .before .put-request in
-    let args = c .before .before .before .before .before .before .before .before .before .before .before .before .before
-    .before .before .before .before .before .args in
-    let pre = c .before .before .before .before .before .before .before .before .before .before .before .before .before
-    .before .before .before .before .before .pre in
-    rw (request-part (args .path .now) (args .elements) (args .offset) _ _ _
-    (omega (arith, sendable-words (args .path .now) (pre .0 .sendable))) (put-request .ensures)) at (dispatch .ensures)
+    let back = c .before .before .before .before in let dispatch = back .dispatch in
+    let back = back .before .before .before .before .before .before in let put-request = back .put-request in
+    let start = start-from-put-request back in
+    rw (request-part (start .args .path .now) (start .args .elements) (start .args .offset) _ _ _
+    (omega (arith, sendable-words (start .args .path .now) (start .pre .0 .sendable))) (put-request .ensures)) at
+    (dispatch .ensures)
 
 pub send-read-spec : {M : Type 1} → statement M
 send-read-spec =

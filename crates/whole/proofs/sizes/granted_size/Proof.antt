@@ -9,18 +9,19 @@ enum-told c = search needs
 
 returns : tie.Need-returns
 returns c =
-    let back = c .before .before .before in let enum-told = back .enum-told in
-    let ask-of = back .before .before .ask-of in
-    let args = back .before .before .before .args in
-    sized-bit (args .g) (args .elements) _ _ (ask-of .ensures) (enum-told .given .1)
-    (c .before .before .header-size .ensures) (c .if1 .taken)
+    let back = c .before .before in let header-size = back .header-size in
+    let enum-told = back .before .enum-told in
+    let back = back .before .before .before in let ask-of = back .ask-of in
+    let args = back .before .args in
+    sized-bit (args .g) (args .elements) _ _ (ask-of .ensures) (enum-told .given .1) (header-size .ensures)
+    (c .if1 .taken)
 
 mul-t6 : tie.Need-mul-t6
 mul-t6 c =
     let h = (let back = c .before .before .before .before in
     let enum-told = back .enum-told in
-    let ask-of = back .before .before .ask-of in
-    let start = back .before .before .before in
+    let back = back .before .before in let ask-of = back .ask-of in
+    let start = back .before in
     sized-few (start .args .g) (start .args .elements) 0 _ (ask-of .ensures) (enum-told .given .1) (start .pre .0)
     (start .pre .1)) in
     search needs
@@ -29,15 +30,16 @@ returns-2 : tie.Need-returns-2
 returns-2 c =
     let back = c .before .before .before in let header-size = back .header-size in
     let enum-told = back .before .enum-told in
-    let ask-of = back .before .before .before .ask-of in
-    let args = back .before .before .before .before .args in
+    let back = back .before .before .before in let ask-of = back .ask-of in
+    let args = back .before .args in
     sized-elements (args .g) (args .elements) _ _ (ask-of .ensures) (enum-told .given .1) (header-size .ensures)
     (c .before .if1 .left)
 
 returns-3 : tie.Need-returns-3
 returns-3 c =
-    let args = c .before .before .before .args in
-    sized-none (args .g) (args .elements) 0 _ (c .before .before .ask-of .ensures) _ (c .enum-told2 .given .1)
+    let back = c .before .before in let ask-of = back .ask-of in
+    let args = back .before .args in
+    sized-none (args .g) (args .elements) 0 _ (ask-of .ensures) _ (c .enum-told2 .given .1)
 
 pub granted-size-spec : {M : Type 1} → statement M
 granted-size-spec =

@@ -21,38 +21,49 @@ Inv-loop structures tags others names tag-names scope body n limit buf₀ total�
 abbrev μ-loop : tie.MeasureT-loop
 μ-loop structures tags others names tag-names scope body n limit buf₀ total₀ bound₀ hint₀ buf total bound hint = 71302080 - total
 
+-- Earlier places, as later ones see them.
+abbrev start-from-loop : tie.At-loop Inv-loop μ-loop → tie.Start Inv-loop μ-loop
+start-from-loop c = c .before .before .before .before .before
+
+abbrev loop-from-page-step : tie.After-page-step Inv-loop μ-loop → tie.At-loop Inv-loop μ-loop
+loop-from-page-step c = c .before .before
+
+abbrev page-step-from-u : tie.After-u Inv-loop μ-loop → tie.After-page-step Inv-loop μ-loop
+page-step-from-u c = c .before .before .before .before
+
 loop-holds : tie.Need-loop-holds Inv-loop μ-loop
 loop-holds c = ((refl, refl), λ m p z y v. measure-none _ _ (due-few _ y v _ _ _))
 
 sub-total : tie.Need-sub-total Inv-loop μ-loop
 sub-total c =
-    let f = (let page-step = c .before .before .before .before .before .page-step in
+    let f = (let page-step = page-step-from-u (c .before) .page-step in
     further-more _ _ _ (c .before .u .given .1) (page-step .ensures .1)) in
     search needs
 
 add-total : tie.Need-add-total Inv-loop μ-loop
 add-total c =
-    let q = (let back = c .before .before .before .before .before in
+    let q = (let back = page-step-from-u (c .before) in
     let page-step = back .page-step in
-    let loop = back .before .before .loop in
-    let pre = back .before .before .before .before .before .before .before .pre in
+    let back = loop-from-page-step back in let loop = back .loop in
+    let pre = start-from-loop back .pre in
     measure-few (pre .0) (loop .inv .1) (page-step .ensures) (pre .4) (c .before .u .given .1)) in
     search needs
 
 loop-less : tie.Need-loop-less Inv-loop μ-loop
 loop-less c =
-    let q = (let back = c .before .before .before .before .before in
+    let q = (let back = page-step-from-u (c .before) in
     let page-step = back .page-step in
-    let loop = back .before .before .loop in
-    let pre = back .before .before .before .before .before .before .before .pre in
+    let back = loop-from-page-step back in let loop = back .loop in
+    let pre = start-from-loop back .pre in
     measure-few (pre .0) (loop .inv .1) (page-step .ensures) (pre .4) (c .before .u .given .1)) in
     omega (arith, q .0, q .1)
 
 loop-again : tie.Need-loop-again Inv-loop μ-loop
 loop-again c =
-    let back = c .before .before .before .before .before in let page-step = back .page-step in
-    let loop = back .before .before .loop in
-    let pre = back .before .before .before .before .before .before .before .pre in (
+    let back = page-step-from-u (c .before) in
+    let page-step = back .page-step in
+    let back = loop-from-page-step back in let loop = back .loop in
+    let pre = start-from-loop back .pre in (
       walk-kept _ (pre .0) (loop .inv .0) (pre .5) (page-step .ensures .0),
       λ m p z y v. measure-more _ _ _ _ _ _ _ _ (loop .inv .1 m p z y v) _ _ (page-step .ensures .0 m p z y v) (pre .4)
           (c .before .u .given .1) .0,
@@ -64,8 +75,8 @@ enum-told c = search needs
 returns : tie.Need-returns Inv-loop μ-loop
 returns c =
     let back = c .before .before .before .before in let page-step = back .page-step in
-    let loop = back .before .before .loop in
-    let pre = back .before .before .before .before .before .before .before .pre in (
+    let back = loop-from-page-step back in let loop = back .loop in
+    let pre = start-from-loop back .pre in (
       λ m p z y v. measure-full _ _ _ _ _ _ _ _ (loop .inv .1 m p z y v) _ _ (page-step .ensures .0 m p z y v)
           (c .enum-told .given .1),
       walk-kept _ (pre .0) (loop .inv .0) (pre .5) (page-step .ensures .0),
@@ -74,8 +85,8 @@ returns c =
 returns-2 : tie.Need-returns-2 Inv-loop μ-loop
 returns-2 c =
     let back = c .before .before .before .before in let page-step = back .page-step in
-    let loop = back .before .before .loop in
-    let pre = back .before .before .before .before .before .before .before .pre in (
+    let back = loop-from-page-step back in let loop = back .loop in
+    let pre = start-from-loop back .pre in (
       λ m p z y v. measure-done _ _ _ _ _ _ _ _ (loop .inv .1 m p z y v) _ _ (page-step .ensures .0 m p z y v) (pre .3)
           (c .enum-told2 .given .1),
       walk-kept _ (pre .0) (loop .inv .0) (pre .5) (page-step .ensures .0),

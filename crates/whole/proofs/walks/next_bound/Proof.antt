@@ -24,26 +24,35 @@ Inv-loop structures tags others names tag-names scope start body n size buf₀ u
 abbrev μ-loop : tie.MeasureT-loop
 μ-loop structures tags others names tag-names scope start body n size buf₀ used₀ bound₀ hint₀ buf used bound hint = size - used
 
+-- Earlier places, as later ones see them.
+abbrev start-from-loop : tie.At-loop Inv-loop μ-loop → tie.Start Inv-loop μ-loop
+start-from-loop c = c .before .before .before .before .before
+
+abbrev page-step-from-u : tie.After-u Inv-loop μ-loop → tie.After-page-step Inv-loop μ-loop
+page-step-from-u c = c .before .before .before .before
+
 loop-holds : tie.Need-loop-holds Inv-loop μ-loop
 loop-holds c = (search needs, search needs, (refl, refl), λ m p z y v. (refl, refl))
 
 loop-less : tie.Need-loop-less Inv-loop μ-loop
 loop-less c =
-    let f = (let page-step = c .before .before .before .before .before .page-step in
+    let f = (let page-step = page-step-from-u (c .before) .page-step in
     further-more _ _ _ (c .before .u .given .1) (page-step .ensures .1)) in
     search needs
 
 loop-again : tie.Need-loop-again Inv-loop μ-loop
 loop-again c =
-    let f = (let page-step = c .before .before .before .before .before .page-step in
+    let f = (let page-step = page-step-from-u (c .before) .page-step in
     further-more _ _ _ (c .before .u .given .1) (page-step .ensures .1)) in (
       search needs,
       search needs,
-      let back = c .before .before .before .before .before in let page-step = back .page-step in
-          let loop = back .before .before .loop in
-          let pre = back .before .before .before .before .before .before .before .pre in
+      let back = page-step-from-u (c .before) in
+          let page-step = back .page-step in
+          let back = back .before .before in let loop = back .loop in
+          let pre = start-from-loop back .pre in
           walk-kept _ (pre .0) (loop .inv .2) (pre .4) (page-step .ensures .0),
-      let back = c .before .before .before .before .before in let page-step = back .page-step in
+      let back = page-step-from-u (c .before) in
+          let page-step = back .page-step in
           let loop = back .before .before .loop in
           λ m p z y v. bound-more _ _ _ _ _ _ _ _ _ (loop .inv .3 m p z y v) _ _ (page-step .ensures .0 m p z y v)
           (c .before .u .given .1),
@@ -55,8 +64,8 @@ enum-told c = search needs
 returns : tie.Need-returns Inv-loop μ-loop
 returns c =
     let back = c .before .before .before .before in let page-step = back .page-step in
-    let loop = back .before .before .loop in
-    let pre = back .before .before .before .before .before .before .before .pre in (
+    let back = back .before .before in let loop = back .loop in
+    let pre = start-from-loop back .pre in (
       λ m p z y v. bound-full _ _ _ _ _ _ _ _ _ (loop .inv .3 m p z y v) _ _ (page-step .ensures .0 m p z y v)
           (c .enum-told .given .1) (loop .inv .1),
       walk-kept _ (pre .0) (loop .inv .2) (pre .4) (page-step .ensures .0),
@@ -65,8 +74,8 @@ returns c =
 returns-2 : tie.Need-returns-2 Inv-loop μ-loop
 returns-2 c =
     let back = c .before .before .before .before in let page-step = back .page-step in
-    let loop = back .before .before .loop in
-    let pre = back .before .before .before .before .before .before .before .pre in (
+    let back = back .before .before in let loop = back .loop in
+    let pre = start-from-loop back .pre in (
       λ m p z y v. bound-done _ _ _ _ _ _ _ _ _ (loop .inv .3 m p z y v) _ _ (page-step .ensures .0 m p z y v)
           (c .enum-told2 .given .1),
       walk-kept _ (pre .0) (loop .inv .2) (pre .4) (page-step .ensures .0),

@@ -11,8 +11,9 @@ start-below-requires c κs =
 
 returns : tie.Need-returns
 returns c =
-    let next-symbol = c .before .before .before .before .next-symbol in
-    start-tag _ _ _ _ _ (next-symbol .ensures) _ (c .before .before .id .given .1) (c .start-below .ensures)
+    let back = c .before .before in let id = back .id in
+    let next-symbol = back .before .before .next-symbol in
+    start-tag _ _ _ _ _ (next-symbol .ensures) _ (id .given .1) (c .start-below .ensures)
 
 start-below-requires-2 : tie.Need-start-below-requires-2
 start-below-requires-2 c κs =
@@ -21,8 +22,9 @@ start-below-requires-2 c κs =
 
 returns-2 : tie.Need-returns-2
 returns-2 c =
-    let next-symbol = c .before .before .before .before .next-symbol in
-    start-other _ _ _ _ _ (next-symbol .ensures) _ (c .before .before .id2 .given .1) (c .start-below2 .ensures)
+    let back = c .before .before in let id2 = back .id2 in
+    let next-symbol = back .before .before .next-symbol in
+    start-other _ _ _ _ _ (next-symbol .ensures) _ (id2 .given .1) (c .start-below2 .ensures)
 
 enum-told : tie.Need-enum-told
 enum-told c = search needs
