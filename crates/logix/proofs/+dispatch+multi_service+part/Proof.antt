@@ -140,56 +140,69 @@ part-calls t = (
   place-reads.Learnt,
 )
 
+-- Earlier places, as later ones see them.
+abbrev split-request-from-size : (t : ℕ) → dispatch-lts.After-size (dispatch-calls t) (dispatch-at t) dispatch.Post →
+    dispatch-lts.After-split-request (dispatch-calls t) (dispatch-at t) dispatch.Post
+split-request-from-size t c = c .before .before
+
+abbrev size-from-path-of : (t : ℕ) → dispatch-lts.After-path-of (dispatch-calls t) (dispatch-at t) dispatch.Post →
+    dispatch-lts.After-size (dispatch-calls t) (dispatch-at t) dispatch.Post
+size-from-path-of t c = c .before .before .before
+
 dispatch-returns : (t : ℕ) → dispatch-lts.Need-returns (dispatch-calls t) (dispatch-at t) dispatch.Post
 dispatch-returns t c =
-    let back = c .before .before .before in let first-of = back .first-of in
-    let enum-told = back .before .before .enum-told in
-    let split-request = back .before .before .before .before .split-request in
+    let back = c .before .before in let fail = back .fail in
+    let first-of = back .before .first-of in
+    let back = back .before .before .before in let enum-told = back .enum-told in
+    let split-request = back .before .before .split-request in
     answer-malformed _ _ _ _ _ _ _ _ _ _ _ (split-request .ensures) (enum-told .given .1) (first-of .ensures)
-    (c .before .before .fail .ensures) refl
+    (fail .ensures) refl
 
 dispatch-path-of-requires : (t : ℕ) → dispatch-lts.Need-path-of-requires (dispatch-calls t) (dispatch-at t) dispatch.Post
 dispatch-path-of-requires t c κs =
-    let split-request = c .before .before .before .before .split-request in
-    path-fits _ _ _ (split-request .ensures) (c .before .before .size .given .1)
+    let back = c .before .before in let size = back .size in
+    let split-request = split-request-from-size t back .split-request in
+    path-fits _ _ _ (split-request .ensures) (size .given .1)
 
 dispatch-data-of-requires : (t : ℕ) → dispatch-lts.Need-data-of-requires (dispatch-calls t) (dispatch-at t) dispatch.Post
 dispatch-data-of-requires t c κs =
-    let size = c .before .before .before .size in
-    let split-request = c .before .before .before .before .before .split-request in
+    let back = size-from-path-of t c in let size = back .size in
+    let split-request = split-request-from-size t back .split-request in
     path-fits _ _ _ (split-request .ensures) (size .given .1)
 
 dispatch-is-envelope-requires : (t : ℕ) → dispatch-lts.Need-is-envelope-requires (dispatch-calls t) (dispatch-at t) dispatch.Post
 dispatch-is-envelope-requires t c κs =
-    let back = c .before .before .before .before in let size = back .size in
-    let split-request = back .before .before .split-request in
+    let back = size-from-path-of t (c .before) in
+    let size = back .size in
+    let split-request = split-request-from-size t back .split-request in
     segments-there _ _ _ _ (split-request .ensures) (size .given .1) (c .before .path-of .ensures)
 
 dispatch-multi-service-requires : (t : ℕ) → dispatch-lts.Need-multi-service-requires (dispatch-calls t) (dispatch-at t) dispatch.Post
 dispatch-multi-service-requires t c κs =
-    let data-of = c .before .before .before .before .data-of in
-    let size = c .before .before .before .before .before .before .before .before .size in
-    let split-request = c .before .before .before .before .before .before .before .before .before .before .split-request in
+    let back = c .before .before .before .before in let data-of = back .data-of in
+    let back = size-from-path-of t (back .before) in
+    let size = back .size in
+    let split-request = split-request-from-size t back .split-request in
     (omega (arith, body-shorter _ _ _ _ (split-request .ensures) (size .given .1) (data-of .ensures)), search needs)
 
 dispatch-returns-2 : (t : ℕ) → dispatch-lts.Need-returns-2 (dispatch-calls t) (dispatch-at t) dispatch.Post
 dispatch-returns-2 t c =
     let back = c .before .before .before .before in let multi-service = back .multi-service in
     let back = back .before .before .before in let if1 = back .if1 in
-    let back = back .before in let is-envelope = back .is-envelope in
-    let back = back .before in let data-of = back .data-of in
-    let path-of = back .before .path-of in
-    let back = back .before .before in let first-of2 = back .first-of2 in
-    let size = back .before .before .size in
-    let split-request = back .before .before .before .before .split-request in
+    let is-envelope = back .before .is-envelope in
+    let back = back .before .before in let data-of = back .data-of in
+    let back = back .before in let path-of = back .path-of in
+    let first-of2 = back .before .first-of2 in
+    let back = size-from-path-of t back in let size = back .size in
+    let split-request = split-request-from-size t back .split-request in
     answer-envelope _ _ _ _ _ _ _ _ _ _ _ _ _ _ (split-request .ensures) (size .given .1) (first-of2 .ensures)
     (path-of .ensures) (data-of .ensures) _ (is-envelope .ensures) (if1 .taken) (multi-service .ensures)
 
 dispatch-plain-requires : (t : ℕ) → dispatch-lts.Need-plain-requires (dispatch-calls t) (dispatch-at t) dispatch.Post
 dispatch-plain-requires t c κs = (
   let back = c .before .before .before .before .before in let path-of = back .path-of in
-      let size = back .before .before .before .size in
-      let split-request = back .before .before .before .before .before .split-request in
+      let back = size-from-path-of t back in let size = back .size in
+      let split-request = split-request-from-size t back .split-request in
       segments-there _ _ _ _ (split-request .ensures) (size .given .1) (path-of .ensures),
   search needs,
   search needs,
@@ -199,12 +212,12 @@ dispatch-returns-3 : (t : ℕ) → dispatch-lts.Need-returns-3 (dispatch-calls t
 dispatch-returns-3 t c =
     let back = c .before .before .before .before in let plain = back .plain in
     let back = back .before .before .before in let if1 = back .if1 in
-    let back = back .before in let is-envelope = back .is-envelope in
-    let back = back .before in let data-of = back .data-of in
-    let path-of = back .before .path-of in
-    let back = back .before .before in let first-of2 = back .first-of2 in
-    let size = back .before .before .size in
-    let split-request = back .before .before .before .before .split-request in
+    let is-envelope = back .before .is-envelope in
+    let back = back .before .before in let data-of = back .data-of in
+    let back = back .before in let path-of = back .path-of in
+    let first-of2 = back .before .first-of2 in
+    let back = size-from-path-of t back in let size = back .size in
+    let split-request = split-request-from-size t back .split-request in
     answer-plain _ _ _ _ _ _ _ _ _ _ _ _ _ _ (split-request .ensures) (size .given .1) (first-of2 .ensures)
     (path-of .ensures) (data-of .ensures) _ (is-envelope .ensures) (if1 .left) (plain .ensures)
 
@@ -217,27 +230,41 @@ abbrev multi-service-μ-loop : multi-service-lts.MeasureT-loop
 multi-service-μ-loop structures members programs tags others names texts templates flags memory₀ body limit buf₀ count used₀ fine₀ i₀ memory buf used fine i =
     count - i
 
+-- Earlier places, as later ones see them.
+abbrev start-from-else2 : (t : ℕ) → multi-service-lts.Else2 (multi-service-calls t) (multi-service-at t)
+    multi-service.Post multi-service-Inv-loop multi-service-μ-loop → multi-service-lts.Start (multi-service-calls t)
+    (multi-service-at t) multi-service.Post multi-service-Inv-loop multi-service-μ-loop
+start-from-else2 t c = c .before .before .before .before .before .before .before .before .before .before
+
+abbrev put-offset-from-budget-of : (t : ℕ) → multi-service-lts.After-budget-of (multi-service-calls t)
+    (multi-service-at t) multi-service.Post multi-service-Inv-loop multi-service-μ-loop →
+    multi-service-lts.After-put-offset (multi-service-calls t) (multi-service-at t) multi-service.Post
+    multi-service-Inv-loop multi-service-μ-loop
+put-offset-from-budget-of t c = c .before .before .before .before .before
+
 multi-service-returns : (t : ℕ) → multi-service-lts.Need-returns (multi-service-calls t) (multi-service-at t)
     multi-service.Post multi-service-Inv-loop multi-service-μ-loop
 multi-service-returns t c =
-    let back = c .before .before .before .before in let if1 = back .if1 in
+    let back = c .before .before in let fail = back .fail in
+    let back = back .before .before in let if1 = back .if1 in
     let takes-envelopes = back .before .takes-envelopes in
-    envelope-off _ _ _ _ _ _ _ _ _ _ (takes-envelopes .ensures) (if1 .taken) (c .before .before .fail .ensures) refl
+    envelope-off _ _ _ _ _ _ _ _ _ _ (takes-envelopes .ensures) (if1 .taken) (fail .ensures) refl
 
 multi-service-returns-2 : (t : ℕ) → multi-service-lts.Need-returns-2 (multi-service-calls t) (multi-service-at t)
     multi-service.Post multi-service-Inv-loop multi-service-μ-loop
 multi-service-returns-2 t c =
-    let back = c .before .before .before .before in let if2 = back .if2 in
+    let back = c .before .before in let fail2 = back .fail2 in
+    let back = back .before .before in let if2 = back .if2 in
     let has-parts = back .before .has-parts in
-    let if1 = back .before .before .if1 in
-    let takes-envelopes = back .before .before .before .takes-envelopes in
+    let back = back .before .before in let if1 = back .if1 in
+    let takes-envelopes = back .before .takes-envelopes in
     envelope-short _ _ _ _ _ _ _ _ _ _ _ (takes-envelopes .ensures) (if1 .left) (has-parts .ensures) (if2 .taken)
-    (c .before .before .fail2 .ensures) refl
+    (fail2 .ensures) refl
 
 multi-service-count-of-requires : (t : ℕ) → multi-service-lts.Need-count-of-requires (multi-service-calls t)
     (multi-service-at t) multi-service.Post multi-service-Inv-loop multi-service-μ-loop
 multi-service-count-of-requires t c κs =
-    let args = c .before .before .before .before .before .before .before .before .before .before .args in
+    let args = start-from-else2 t c .args in
     omega (arith, has-parts (args .body .now) _ (c .before .has-parts .ensures) (not-false _ (c .if2 .left)) .long)
 
 multi-service-loop-holds : (t : ℕ) → multi-service-lts.Need-loop-holds (multi-service-calls t) (multi-service-at t)
@@ -256,14 +283,15 @@ multi-service-part-of-requires t c κs =
 multi-service-part-requires : (t : ℕ) → multi-service-lts.Need-part-requires (multi-service-calls t)
     (multi-service-at t) multi-service.Post multi-service-Inv-loop multi-service-μ-loop
 multi-service-part-requires t c κs =
-    let loop = c .before .before .before .before .before .before .before .before .before .loop in
-    let pre = c .before .before .before .before .before .before .before .before .before .before .before .before .before
-    .before .before .before .before .before .before .before .before .pre in (
-      omega (arith, c .before .before .part-of .ensures .shorter),
+    let back = c .before in let budget-of = back .budget-of in
+    let part-of = back .before .part-of in
+    let back = put-offset-from-budget-of t back .before .before .before in let loop = back .loop in
+    let pre = start-from-else2 t (back .before .before) .pre in (
+      omega (arith, part-of .ensures .shorter),
       (
         rw (loop .inv .wide) (pre .1 .0),
         pre .1 .1,
-        omega (arith, c .before .budget-of .ensures),
+        omega (arith, budget-of .ensures),
         omega (arith, loop .inv .long, pre .1 .2),
       ),
     )
@@ -271,12 +299,10 @@ multi-service-part-requires t c κs =
 multi-service-add-used-2 : (t : ℕ) → multi-service-lts.Need-add-used-2 (multi-service-calls t) (multi-service-at t)
     multi-service.Post multi-service-Inv-loop multi-service-μ-loop
 multi-service-add-used-2 t c =
-    let part = c .before .before .before .before .before .part in
-    let budget-of = c .before .before .before .before .before .before .before .budget-of in
-    let loop = c .before .before .before .before .before .before .before .before .before .before .before .before .before
-    .before .before .loop in
-    let pre = c .before .before .before .before .before .before .before .before .before .before .before .before .before
-    .before .before .before .before .before .before .before .before .before .before .before .before .before .before .pre in
+    let back = c .before .before .before .before .before in let part = back .part in
+    let back = back .before .before in let budget-of = back .budget-of in
+    let back = put-offset-from-budget-of t back .before .before .before in let loop = back .loop in
+    let pre = start-from-else2 t (back .before .before) .pre in
     omega (
       arith,
       part .ensures .placed .length-is,
@@ -292,12 +318,11 @@ multi-service-loop-again : (t : ℕ) → multi-service-lts.Need-loop-again (mult
 multi-service-loop-again t c =
     let back = c .before .before .before .before .before .before in let part = back .part in
     let back = back .before .before in let budget-of = back .budget-of in
-    let back = back .before in let part-of = back .part-of in
-    let back = back .before .before .before .before in let put-offset = back .put-offset in
+    let part-of = back .before .part-of in
+    let back = put-offset-from-budget-of t back in let put-offset = back .put-offset in
     let back = back .before .before in let loop-test = back .loop-test in
     let loop = back .before .loop in
-    let pre = back .before .before .before .before .before .before .before .before .before .before .before .before
-    .before .pre in
+    let pre = start-from-else2 t (back .before .before .before) .pre in
     going-more _ _ _ _ _ _ _ _ _ _ _ (loop .inv) _ _ (loop-test .taken) (part-of .ensures) (budget-of .ensures) _ _ _ _
     (put-offset .ensures) (part .ensures) (pre .1 .2) (put-offset .kept .0)
     (part .kept .1 .1 .1 .1 .1 .1 .1 .1 .1 .1 .1 .1 .1 .1 .0) (part .kept .1 .1 .1 .1 .1 .1 .1 .1 .1 .0) _
@@ -306,37 +331,43 @@ multi-service-loop-again t c =
 multi-service-returns-3 : (t : ℕ) → multi-service-lts.Need-returns-3 (multi-service-calls t) (multi-service-at t)
     multi-service.Post multi-service-Inv-loop multi-service-μ-loop
 multi-service-returns-3 t c =
-    let back = c .before .before .before .before in let loop-test = back .loop-test in
-    let back = back .before in let loop = back .loop in
-    let back = back .before in let count-of = back .count-of in
-    let back = back .before in let if2 = back .if2 in
-    let has-parts-at = back .before .has-parts in
-    let back = back .before .before in let if1 = back .if1 in
+    let back = c .before .before in let close = back .close in
+    let back = back .before .before in let loop-test = back .loop-test in
+    let loop = back .before .loop in
+    let back = back .before .before in let count-of = back .count-of in
+    let at-else2 = back .before in
+    let if2 = at-else2 .if2 in
+    let has-parts-at = at-else2 .before .has-parts in
+    let back = at-else2 .before .before in let if1 = back .if1 in
     let takes-envelopes = back .before .takes-envelopes in
-    let start = back .before .before .before .before .before .before .before .before in
+    let start = start-from-else2 t at-else2 in
     envelope-runs _ _ _ _ _ _ _ _ _ _ _ (takes-envelopes .ensures) (if1 .left)
     (has-parts (start .args .body .now) _ (has-parts-at .ensures) (not-false _ (if2 .left))) (count-of .ensures .0)
-    (going-end _ _ _ _ _ _ _ _ _ _ _ (loop .inv) _ _ (le-antisymm (loop .inv .turn) (loop-test .left))
-    (c .before .before .close .ensures) (start .pre .1 .2))
+    (going-end _ _ _ _ _ _ _ _ _ _ _ (loop .inv) _ _ (le-antisymm (loop .inv .turn) (loop-test .left)) (close .ensures)
+    (start .pre .1 .2))
+
+-- Earlier places, as later ones see them.
+abbrev start-from-first-of : (t : ℕ) → part-lts.After-first-of (part-calls t) (part-at t) part.Post → part-lts.Start (part-calls t) (part-at t) part.Post
+start-from-first-of t c = c .before .before .before .before .before .before .before
 
 part-returns : (t : ℕ) → part-lts.Need-returns (part-calls t) (part-at t) part.Post
 part-returns t c =
-    let back = c .before .before .before .before in let if1 = back .if1 in
+    let back = c .before .before in let refuse-part = back .refuse-part in
+    let back = back .before .before in let if1 = back .if1 in
     let first-of = back .before .first-of in
-    let pre = back .before .before .before .before .before .before .before .before .pre in
-    part-declined _ _ _ _ _ _ _ _ _ _ (first-of .ensures) (if1 .taken) (pre .1 .3)
-    (c .before .before .refuse-part .ensures)
+    let pre = start-from-first-of t (back .before) .pre in
+    part-declined _ _ _ _ _ _ _ _ _ _ (first-of .ensures) (if1 .taken) (pre .1 .3) (refuse-part .ensures)
 
 part-dispatch-requires : (t : ℕ) → part-lts.Need-dispatch-requires (part-calls t) (part-at t) part.Post
 part-dispatch-requires t c κs =
-    let pre = c .before .before .before .before .before .before .before .before .before .before .before .pre in
-    let args = c .before .before .before .before .before .before .before .before .before .before .before .args in (
+    let back = c .before .before in let if2 = back .if2 in
+    let start = start-from-first-of t (back .before .before) in (
       search needs,
       (
-        pre .1 .0,
-        omega (arith, pre .1 .1, pre .1 .2),
-        tail-room (args .buf .now) (args .budget) (args .limit) (args .used) (c .before .before .if2 .taken) (pre .1 .2)
-            (pre .1 .3),
+        start .pre .1 .0,
+        omega (arith, start .pre .1 .1, start .pre .1 .2),
+        tail-room (start .args .buf .now) (start .args .budget) (start .args .limit) (start .args .used) (if2 .taken)
+            (start .pre .1 .2) (start .pre .1 .3),
       ),
     )
 
@@ -345,14 +376,14 @@ part-returns-2 t c =
     let back = c .before .before .before .before .before in let dispatch = back .dispatch in
     let back = back .before .before .before in let if2 = back .if2 in
     let if1 = back .before .if1 in
-    let first-of = back .before .before .first-of in
-    let pre = back .before .before .before .before .before .before .before .before .before .pre in
+    let back = back .before .before in let first-of = back .first-of in
+    let pre = start-from-first-of t back .pre in
     part-in-place _ _ _ _ _ _ (first-of .ensures) (if1 .left) _ _ _ _ _ _ (if2 .taken) (pre .1 .2) (pre .1 .3)
     (dispatch .ensures)
 
 part-dispatch-requires-2 : (t : ℕ) → part-lts.Need-dispatch-requires-2 (part-calls t) (part-at t) part.Post
 part-dispatch-requires-2 t c κs =
-    let pre = c .before .before .before .before .before .before .before .before .before .before .before .pre in
+    let pre = start-from-first-of t (c .before .before .before .before) .pre in
     (search needs, (pre .1 .0, omega (arith, pre .1 .1, pre .1 .2), omega arith))
 
 part-place-requires : (t : ℕ) → part-lts.Need-place-requires (part-calls t) (part-at t) part.Post
@@ -360,8 +391,8 @@ part-place-requires t c κs =
     let back = c .before .before .before .before .before in let dispatch2 = back .dispatch2 in
     let back = back .before .before .before in let if2 = back .if2 in
     let if1 = back .before .if1 in
-    let first-of = back .before .before .first-of in
-    let pre = back .before .before .before .before .before .before .before .before .before .pre in (
+    let back = back .before .before in let first-of = back .first-of in
+    let pre = start-from-first-of t back .pre in (
       part-some _ _ _ _ _ _ (first-of .ensures) (if1 .left) _ _ _ _ (if2 .left) refl (dispatch2 .ensures),
       part-fits _ _ _ _ _ _ (first-of .ensures) (if1 .left) _ _ _ _ (if2 .left) refl (dispatch2 .ensures)
           (dispatch2 .kept .1 .1 .1 .1 .1 .1 .1 .1 .1 .1 .1 .1 .0),
@@ -370,13 +401,14 @@ part-place-requires t c κs =
 
 part-returns-3 : (t : ℕ) → part-lts.Need-returns-3 (part-calls t) (part-at t) part.Post
 part-returns-3 t c =
-    let back = c .before .before .before .before .before .before .before .before in let dispatch2 = back .dispatch2 in
+    let back = c .before .before in let place = back .place in
+    let back = back .before .before .before .before .before .before in let dispatch2 = back .dispatch2 in
     let back = back .before .before .before in let if2 = back .if2 in
     let if1 = back .before .if1 in
-    let first-of = back .before .before .first-of in
-    let pre = back .before .before .before .before .before .before .before .before .before .pre in
+    let back = back .before .before in let first-of = back .first-of in
+    let pre = start-from-first-of t back .pre in
     part-by-scratch _ _ _ _ _ _ (first-of .ensures) (if1 .left) _ _ _ _ (if2 .left) refl (dispatch2 .ensures) _ _ _ _ _
-    (pre .1 .3) (c .before .before .place .ensures)
+    (pre .1 .3) (place .ensures)
 
 pub +dispatch+multi-service+part-spec : {M : Type 1} → statement M
 +dispatch+multi-service+part-spec =

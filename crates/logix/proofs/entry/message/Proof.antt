@@ -26,8 +26,9 @@ room-of-requires c κs = search needs
 -- src/entry.rt:81:9
 returns-3 : tie.Need-returns-3
 returns-3 c =
-    let if1 = c .before .before .before .if1 in
-    enters-short _ _ _ _ _ _ (if1 .left) (c .before .before .if2 .left) _ (c .before .room-of .ensures) (c .if3 .taken)
+    let back = c .before .before in let if2 = back .if2 in
+    let if1 = back .before .if1 in
+    enters-short _ _ _ _ _ _ (if1 .left) (if2 .left) _ (c .before .room-of .ensures) (c .if3 .taken)
 
 -- src/entry.rt:83:8
 valid-requires : tie.Need-valid-requires
@@ -36,16 +37,13 @@ valid-requires c κs = search needs
 -- src/entry.rt:86:31
 answer-requires : tie.Need-answer-requires
 answer-requires c κs =
-    let valid = c .before .before .before .valid in
-    let if3 = c .before .before .before .before .before .if3 in
-    let room-of = c .before .before .before .before .before .before .room-of in
-    let if2 = c .before .before .before .before .before .before .before .if2 in
-    let if1 = c .before .before .before .before .before .before .before .before .if1 in (
-      if1 .left,
-      if2 .left,
-      omega (arith, room-of .ensures, if3 .left),
-      sym (valid .ensures) ∙ c .before .before .if4 .taken,
-    )
+    let back = c .before .before in let if4 = back .if4 in
+    let valid = back .before .valid in
+    let back = back .before .before .before in let if3 = back .if3 in
+    let room-of = back .before .room-of in
+    let back = back .before .before in let if2 = back .if2 in
+    let if1 = back .before .if1 in
+    (if1 .left, if2 .left, omega (arith, room-of .ensures, if3 .left), sym (valid .ensures) ∙ if4 .taken)
 
 -- src/entry.rt:86:9
 same-length : tie.Need-same-length
@@ -60,11 +58,11 @@ returns-4 : tie.Need-returns-4
 returns-4 c =
     let back = c .before .before .before .before in let answer = back .answer in
     let back = back .before .before .before in let if4 = back .if4 in
-    let back = back .before in let valid = back .valid in
-    let back = back .before .before in let if3 = back .if3 in
+    let valid = back .before .valid in
+    let back = back .before .before .before in let if3 = back .if3 in
     let room-of = back .before .room-of in
-    let if2 = back .before .before .if2 in
-    let if1 = back .before .before .before .if1 in
+    let back = back .before .before in let if2 = back .if2 in
+    let if1 = back .before .if1 in
     enters-well _ _ _ _ _ _ (if1 .left) (if2 .left) _ (room-of .ensures) (if3 .left) _ (valid .ensures) (if4 .taken) _ _
     _ (answer .ensures)
 
@@ -77,8 +75,8 @@ returns-5 : tie.Need-returns-5
 returns-5 c =
     let back = c .before .before .before in let if3 = back .if3 in
     let room-of = back .before .room-of in
-    let if2 = back .before .before .if2 in
-    let if1 = back .before .before .before .if1 in
+    let back = back .before .before in let if2 = back .if2 in
+    let if1 = back .before .if1 in
     enters-invalid _ _ _ _ _ _ (if1 .left) (if2 .left) _ (room-of .ensures) (if3 .left) _ (c .before .valid .ensures)
     (c .if4 .left)
 

@@ -18,15 +18,16 @@ loop-holds c = (omega arith, refl)
 
 returns : tie.Need-returns Inv-loop μ-loop
 returns c =
-    let loop = c .before .before .before .loop in
-    order-off _ _ _ _ (loop .inv .1) _ (c .before .before .loop-test .taken) (c .before .mark .ensures) (c .if1 .taken)
+    let back = c .before .before in let loop-test = back .loop-test in
+    let loop = back .before .loop in
+    order-off _ _ _ _ (loop .inv .1) _ (loop-test .taken) (c .before .mark .ensures) (c .if1 .taken)
 
 loop-again : tie.Need-loop-again Inv-loop μ-loop
 loop-again c = (
   search needs,
-  let loop = c .before .before .before .loop in
-      order-on _ _ _ _ (loop .inv .1) _ _ (c .before .before .loop-test .taken) (c .before .mark .ensures)
-      (c .if1 .left) refl,
+  let back = c .before .before in let loop-test = back .loop-test in
+      let loop = back .before .loop in
+      order-on _ _ _ _ (loop .inv .1) _ _ (loop-test .taken) (c .before .mark .ensures) (c .if1 .left) refl,
 )
 
 returns-2 : tie.Need-returns-2 Inv-loop μ-loop

@@ -8,6 +8,10 @@ use borrow.Author.Needs.{needs}
 use Rattle.logix.proofs.parts.place.Statement.{statement}
 use Rattle.logix.proofs.parts.place.Tie as tie
 
+-- Earlier places, as later ones see them.
+abbrev start-from-copy-into-arg2 : tie.After-copy-into-arg2 → tie.Start
+start-from-copy-into-arg2 c = c .before .before .before .before .before .before .before
+
 returns : tie.Need-returns
 returns c =
     let pre = c .before .before .before .before .pre in
@@ -20,19 +24,19 @@ returns-2 c =
 
 slice-aggregate-copy-into : tie.Need-slice-aggregate-copy-into
 slice-aggregate-copy-into c =
-    let pre = c .before .before .before .before .before .before .before .pre in
+    let pre = start-from-copy-into-arg2 c .pre in
     sym (length-take-le _ _ (pre .1))
 
 copy-into-requires : tie.Need-copy-into-requires
 copy-into-requires c κs =
-    let args = c .before .before .before .before .before .before .before .args in
-    let pre = c .before .before .before .before .before .before .before .pre in
-    omega (arith, length-take-le (args .n) (args .src .now) (pre .1))
+    let start = start-from-copy-into-arg2 c in
+    omega (arith, length-take-le (start .args .n) (start .args .src .now) (start .pre .1))
 
 returns-3 : tie.Need-returns-3
 returns-3 c =
-    let pre = c .before .before .before .before .before .before .before .before .before .before .pre in
-    copied _ _ _ _ _ (pre .0) (pre .1) _ (c .before .before .copy-into .ensures) (omega arith)
+    let back = c .before .before in let copy-into = back .copy-into in
+    let pre = start-from-copy-into-arg2 (back .before) .pre in
+    copied _ _ _ _ _ (pre .0) (pre .1) _ (copy-into .ensures) (omega arith)
 
 pub place-spec : {M : Type 1} → statement M
 place-spec =

@@ -13,8 +13,9 @@ returns c =
 
 returns-2 : tie.Need-returns-2
 returns-2 c =
-    let low16-size = c .before .before .before .low16-size in
-    marked-by _ _ _ _ _ _ (low16-size .ensures) (c .before .before .put-u16 .ensures) (omega arith) (omega arith)
+    let back = c .before .before in let put-u16 = back .put-u16 in
+    let low16-size = back .before .low16-size in
+    marked-by _ _ _ _ _ _ (low16-size .ensures) (put-u16 .ensures) (omega arith) (omega arith)
 
 pub put-offset-spec : {M : Type 1} → statement M
 put-offset-spec =

@@ -10,8 +10,9 @@ place-requires c κs = let n = refused-long _ _ _ (c .before .before .before .fa
 
 returns : tie.Need-returns
 returns c =
-    let fail = c .before .before .before .before .before .before .fail in
-    refused-copied _ _ _ (fail .ensures) _ _ _ _ _ (c .before .before .place .ensures)
+    let back = c .before .before in let place = back .place in
+    let fail = back .before .before .before .before .fail in
+    refused-copied _ _ _ (fail .ensures) _ _ _ _ _ (place .ensures)
 
 pub refuse-part-spec : {M : Type 1} → statement M
 refuse-part-spec =
