@@ -4,12 +4,17 @@ use borrow.Author.Needs.{needs}
 use Rattle.services.proofs.by_service.Statement.{statement}
 use Rattle.services.proofs.by_service.Tie as tie
 
+-- Earlier places, as later ones see them.
+abbrev start-from-slice-known2 : tie.After-slice-known2 → tie.Start
+start-from-slice-known2 c = c .before .before .before .before .before .before .before
+
 returns : tie.Need-returns
 returns c =
-    let back = c .before .before .before .before in let if1 = back .if1 in
-    let start = back .before .before .before .before .before .before .before .before in
+    let back = c .before .before in let list-symbols = back .list-symbols in
+    let back = back .before .before in let if1 = back .if1 in
+    let start = start-from-slice-known2 (back .before) in
     by-page _ (start .args .members .now) _ _ _ _ _ (start .args .templates .now) _ _ _ _ _ _ _ _ _ (if1 .taken)
-    (start .pre .2) (c .before .before .list-symbols .ensures)
+    (start .pre .2) (list-symbols .ensures)
 
 returns-2 : tie.Need-returns-2
 returns-2 c =
@@ -22,14 +27,15 @@ returns-2 c =
 
 returns-3 : tie.Need-returns-3
 returns-3 c =
-    let back = c .before .before .before .before in let if2 = back .if2 in
+    let back = c .before .before in let refuse-other = back .refuse-other in
+    let back = back .before .before in let if2 = back .if2 in
     let is-tag-request = back .before .is-tag-request in
-    let if1 = back .before .before .if1 in
-    let start = back .before .before .before .before .before .before .before .before .before .before in
+    let back = back .before .before in let if1 = back .if1 in
+    let start = start-from-slice-known2 (back .before) in
     by-other (start .args .structures .now) (start .args .members .now) (start .args .programs .now)
     (start .args .tags .now) (start .args .others .now) (start .args .names .now) (start .args .tag-names .now)
     (start .args .templates .now) _ _ _ _ _ _ _ _ _ (if1 .left) _ (is-tag-request .ensures) (if2 .left) (start .args .o)
-    (start .pre .1) (c .before .before .refuse-other .ensures)
+    (start .pre .1) (refuse-other .ensures)
 
 pub by-service-spec : {M : Type 1} → statement M
 by-service-spec =

@@ -5,10 +5,13 @@ use borrow.Author.Needs.{needs}
 use Rattle.services.proofs.plain.Statement.{statement}
 use Rattle.services.proofs.plain.Tie as tie
 
+-- Earlier places, as later ones see them.
+abbrev start-from-object-at : tie.After-object-at → tie.Start
+start-from-object-at c = c .before .before .before .before .before .before .before .before
+
 read-template-requires : tie.Need-read-template-requires
 read-template-requires c κs =
-    let pre = c .before .before .before .before .before .before .before .before .before .before .before .before .before
-    .before .pre in
+    let pre = start-from-object-at (c .before .before .before .before .before .before) .pre in
     (in-store _ _ (pre .1), pre .2)
 
 enum-told : tie.Need-enum-told
@@ -16,43 +19,45 @@ enum-told c = search needs
 
 returns : tie.Need-returns
 returns c =
-    let back = c .before .before .before .before .before in let id = back .id in
+    let back = c .before .before in let symbol-attributes = back .symbol-attributes in
+    let back = back .before .before .before in let id = back .id in
     let back = back .before .before in let own-service = back .own-service in
     let object-at = back .before .object-at in
-    let args = back .before .before .before .before .before .before .before .before .before .args in
+    let args = start-from-object-at (back .before) .args in
     plain-symbols (args .structures .now) (args .members .now) (args .programs .now) (args .tags .now)
     (args .others .now) (args .names .now) (args .tag-names .now) (args .templates .now) _ _ _ _ _ _ _ _ _
     (object-at .result) (object-at .ensures) _ (own-service .ensures) _ (id .given .1)
-    (c .before .before .symbol-attributes .ensures _ _ _ _)
+    (symbol-attributes .ensures _ _ _ _)
 
 returns-2 : tie.Need-returns-2
 returns-2 c =
-    let back = c .before .before .before .before .before in let id2 = back .id2 in
+    let back = c .before .before in let structure-attributes = back .structure-attributes in
+    let back = back .before .before .before in let id2 = back .id2 in
     let back = back .before .before in let own-service = back .own-service in
     let object-at = back .before .object-at in
-    let args = back .before .before .before .before .before .before .before .before .before .args in
+    let args = start-from-object-at (back .before) .args in
     plain-structures (args .structures .now) (args .members .now) (args .programs .now) (args .tags .now)
     (args .others .now) (args .names .now) (args .tag-names .now) (args .templates .now) _ _ _ _ _ _ _ _ _
-    (object-at .result) (object-at .ensures) _ (own-service .ensures) _ (id2 .given .1)
-    (c .before .before .structure-attributes .ensures)
+    (object-at .result) (object-at .ensures) _ (own-service .ensures) _ (id2 .given .1) (structure-attributes .ensures)
 
 returns-3 : tie.Need-returns-3
 returns-3 c =
-    let back = c .before .before .before .before .before .before in let id3 = back .id3 in
+    let back = c .before .before in let read-template = back .read-template in
+    let back = back .before .before .before .before in let id3 = back .id3 in
     let back = back .before .before in let own-service = back .own-service in
     let object-at = back .before .object-at in
-    let args = back .before .before .before .before .before .before .before .before .before .args in
+    let args = start-from-object-at (back .before) .args in
     plain-template (args .structures .now) (args .members .now) (args .programs .now) (args .tags .now)
     (args .others .now) (args .names .now) (args .tag-names .now) (args .templates .now) _ _ _ _ _ _ _ _ _
     (object-at .result) (object-at .ensures) _ (own-service .ensures) _ (id3 .given .1)
-    (c .before .before .read-template .ensures _ _ _ _ _ _)
+    (read-template .ensures _ _ _ _ _ _)
 
 returns-4 : tie.Need-returns-4
 returns-4 c =
     let back = c .before .before .before .before in let by-service = back .by-service in
     let back = back .before .before .before in let enum-told = back .enum-told in
-    let own-service = back .before .before .own-service in
-    let object-at = back .before .before .before .object-at in
+    let back = back .before .before in let own-service = back .own-service in
+    let object-at = back .before .object-at in
     plain-by _ _ _ _ _ _ _ _ _ _ _ _ _ _ _ _ _ (object-at .result) (object-at .ensures) _ (own-service .ensures)
     (enum-told .given .1) _ (by-service .ensures)
 

@@ -5,11 +5,15 @@ use borrow.Author.Needs.{needs}
 use Rattle.services.proofs.targets.tag_service.Statement.{statement}
 use Rattle.services.proofs.targets.tag_service.Tie as tie
 
+-- Earlier places, as later ones see them.
+abbrev start-from-is-write : tie.After-is-write → tie.Start
+start-from-is-write c = c .before .before .before .before .before .before .before .before
+
 serve-requires : tie.Need-serve-requires
 serve-requires c κs =
     let back = c .before .before .before in let g = back .g in
-    let tag-target = back .before .before .tag-target in
-    let start = back .before .before .before .before .before .before .before .before .before .before .before in (
+    let back = back .before .before in let tag-target = back .tag-target in
+    let start = start-from-is-write (back .before) in (
       tag-aimed _ _ _ _ (start .args .others .now) _ _ (start .args .templates .now) _ _ _ _ (start .pre .1)
           (start .pre .0) _ _ (g .given .1) (tag-target .ensures),
       start .pre .2,
@@ -21,18 +25,19 @@ returns c =
     let back = back .before .before .before .before in let g = back .g in
     let back = back .before .before in let tag-target = back .tag-target in
     let is-write = back .before .is-write in
-    let args = back .before .before .before .before .before .before .before .before .before .args in
+    let args = start-from-is-write (back .before) .args in
     tag-found _ _ _ _ (args .others .now) _ _ (args .templates .now) _ _ _ _ _ _ _ (is-write .ensures) _
     (tag-target .ensures) _ _ _ _ _ (g .given .1) (serve .ensures)
 
 returns-2 : tie.Need-returns-2
 returns-2 c =
-    let back = c .before .before .before .before .before in let status = back .status in
+    let back = c .before .before in let fail = back .fail in
+    let back = back .before .before .before in let status = back .status in
     let back = back .before .before in let tag-target = back .tag-target in
     let is-write = back .before .is-write in
-    let args = back .before .before .before .before .before .before .before .before .before .args in
+    let args = start-from-is-write (back .before) .args in
     tag-turned _ _ _ _ (args .others .now) _ _ (args .templates .now) _ _ _ _ _ _ _ (is-write .ensures) _
-    (tag-target .ensures) _ _ _ _ _ (status .given .1) refl (c .before .before .fail .ensures)
+    (tag-target .ensures) _ _ _ _ _ (status .given .1) refl (fail .ensures)
 
 pub tag-service-spec : {M : Type 1} → statement M
 tag-service-spec =
