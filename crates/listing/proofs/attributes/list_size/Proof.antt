@@ -28,9 +28,9 @@ add-used-2 c = let h = value-short (c .before .object-value .result) in search n
 loop-again : tie.Need-loop-again Inv-loop μ-loop
 loop-again c =
     let object-value = c .before .object-value in
-    let u16-at = c .before .before .u16-at in
-    let loop = c .before .before .before .before .loop in
-    let args = c .before .before .before .before .before .before .args in (
+    let back = c .before .before in let u16-at = back .u16-at in
+    let back = back .before .before in let loop = back .loop in
+    let args = back .before .before .args in (
       search needs,
       omega (arith, c .value-size .ensures, value-short (object-value .result)),
       entries-size (args .o) (args .body .now) (loop .i) (u16-at .result) (object-value .result) (u16-at .ensures)

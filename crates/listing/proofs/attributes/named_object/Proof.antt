@@ -10,16 +10,17 @@ enum-told c = search needs
 
 returns : tie.Need-returns
 returns c =
-    let program-of = c .before .before .before .program-of in
-    let args = c .before .before .before .before .before .before .args in
+    let back = c .before .before .before in let program-of = back .program-of in
+    let args = back .before .before .before .args in
     object-at _ _ (programBy (args .programs .now) (args .names .now) (args .name .now)) (c .before .k .given .1)
     (program-of .ensures)
 
 returns-2 : tie.Need-returns-2
 returns-2 c =
-    let args = c .before .before .before .before .before .args in
+    let back = c .before .before in let program-of = back .program-of in
+    let args = back .before .before .before .args in
     object-none _ (programBy (args .programs .now) (args .names .now) (args .name .now)) (c .enum-told .given .1)
-    (c .before .before .program-of .ensures)
+    (program-of .ensures)
 
 pub named-object-spec : {M : Type 1} → statement M
 named-object-spec =

@@ -6,15 +6,15 @@ use Rattle.listing.proofs.attributes.object_value.Tie as tie
 
 returns : tie.Need-returns
 returns c =
-    let args = c .before .before .before .before .args in
-    value-case (args .o) _ (args .number) (c .structure-value .result) (c .before .before .o .given .1)
-    (c .structure-value .ensures)
+    let back = c .before .before in let o = back .o in
+    let args = back .before .before .args in
+    value-case (args .o) _ (args .number) (c .structure-value .result) (o .given .1) (c .structure-value .ensures)
 
 returns-2 : tie.Need-returns-2
 returns-2 c =
-    let args = c .before .before .before .before .args in
-    value-case (args .o) _ (args .number) (c .program-value .result) (c .before .before .o2 .given .1)
-    (c .program-value .ensures)
+    let back = c .before .before in let o2 = back .o2 in
+    let args = back .before .before .args in
+    value-case (args .o) _ (args .number) (c .program-value .result) (o2 .given .1) (c .program-value .ensures)
 
 pub object-value-spec : {M : Type 1} → statement M
 object-value-spec =

@@ -20,8 +20,9 @@ part-find-program-start c =
 returns : tie.Need-returns
 unfolding programBy
 returns c =
-    let is-program-name = c .before .before .before .is-program-name in
-    rw (← (is-program-name .ensures), c .before .before .if1 .taken) (rw rest-of at (c .find-program .ensures))
+    let back = c .before .before in let if1 = back .if1 in
+    let is-program-name = back .before .is-program-name in
+    rw (← (is-program-name .ensures), if1 .taken) (rw rest-of at (c .find-program .ensures))
 
 returns-2 : tie.Need-returns-2
 unfolding programBy

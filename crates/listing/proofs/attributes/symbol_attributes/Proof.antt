@@ -6,57 +6,70 @@ use borrow.Author.Needs.{needs}
 use Rattle.listing.proofs.attributes.symbol_attributes.Statement.{statement}
 use Rattle.listing.proofs.attributes.symbol_attributes.Tie as tie
 
+-- Earlier places, as later ones see them.
+abbrev start-from-find-other-id : tie.After-find-other-id → tie.Start
+start-from-find-other-id c = c .before .before .before .before
+
+abbrev find-other-id-from-i : tie.After-i → tie.After-find-other-id
+find-other-id-from-i c = c .before .before
+
 mul-part-of : tie.Need-mul-part-of
 mul-part-of c =
-    let h = (let find-other-id = c .before .before .before .find-other-id in
-    let args = c .before .before .before .before .before .before .before .args in
+    let h = (let back = find-other-id-from-i (c .before) in
+    let find-other-id = back .find-other-id in
+    let args = start-from-find-other-id back .args in
     id-inside (args .others .now) 0 (args .id) _ _ (c .before .i .given .1) (find-other-id .ensures)) in
     search needs
 
 index-1-part-of : tie.Need-index-1-part-of
 index-1-part-of c =
-    let find-other-id = c .before .before .before .find-other-id in
-    let args = c .before .before .before .before .before .before .before .args in
+    let back = find-other-id-from-i (c .before) in
+    let find-other-id = back .find-other-id in
+    let args = start-from-find-other-id back .args in
     id-inside (args .others .now) 0 (args .id) _ _ (c .before .i .given .1) (find-other-id .ensures)
 
 mul-part-of-2 : tie.Need-mul-part-of-2
 mul-part-of-2 c =
-    let h = (let back = c .before .before .before .before in
-    let find-other-id = back .find-other-id in
-    let args = back .before .before .before .before .args in
-    id-inside (args .others .now) 0 (args .id) _ _ (c .before .before .i .given .1) (find-other-id .ensures)) in
+    let h = (let back = c .before .before in
+    let i = back .i in
+    let back = find-other-id-from-i back in let find-other-id = back .find-other-id in
+    let args = start-from-find-other-id back .args in
+    id-inside (args .others .now) 0 (args .id) _ _ (i .given .1) (find-other-id .ensures)) in
     search needs
 
 index-1-part-of-2 : tie.Need-index-1-part-of-2
 index-1-part-of-2 c =
-    let back = c .before .before .before .before in let find-other-id = back .find-other-id in
-    let args = back .before .before .before .before .args in
-    id-inside (args .others .now) 0 (args .id) _ _ (c .before .before .i .given .1) (find-other-id .ensures)
+    let back = c .before .before in let i = back .i in
+    let back = find-other-id-from-i back in let find-other-id = back .find-other-id in
+    let args = start-from-find-other-id back .args in
+    id-inside (args .others .now) 0 (args .id) _ _ (i .given .1) (find-other-id .ensures)
 
 enum-told : tie.Need-enum-told
 enum-told c = search needs
 
 returns : tie.Need-returns
 returns c =
-    let back = c .before .before .before .before in let named-object = back .named-object in
+    let back = c .before .before in let attribute-list = back .attribute-list in
+    let back = back .before .before in let named-object = back .named-object in
     let part-of = back .before .part-of in
     let back = back .before .before .before .before .before in let i = back .i in
-    let find-other-id = back .before .before .find-other-id in
-    let args = back .before .before .before .before .before .before .args in
+    let back = find-other-id-from-i back in let find-other-id = back .find-other-id in
+    let args = start-from-find-other-id back .args in
     λ s m n t. symbol-other (args .limit) (args .service) (args .body .now) _ _ _ s m (args .programs .now)
     (args .tags .now) (args .others .now) (args .names .now) n t (args .id) _ _ (named-object .result) (i .given .1)
     (find-other-id .ensures) (named-object .ensures ∙ ap
     (λ x. programObject (programBy (args .programs .now) (args .names .now) x)) (part-of .ensures))
-    (c .before .before .attribute-list .ensures)
+    (attribute-list .ensures)
 
 returns-2 : tie.Need-returns-2
 returns-2 c =
-    let back = c .before .before .before .before in let enum-told = back .enum-told in
-    let find-other-id = back .before .before .find-other-id in
-    let args = back .before .before .before .before .before .before .args in
+    let back = c .before .before in let tag-attributes = back .tag-attributes in
+    let back = back .before .before in let enum-told = back .enum-told in
+    let back = back .before .before in let find-other-id = back .find-other-id in
+    let args = start-from-find-other-id back .args in
     λ s m n t. symbol-tag (args .limit) (args .service) (args .body .now) _ _ _ s m (args .programs .now)
     (args .tags .now) (args .others .now) (args .names .now) n t (args .id) _ (enum-told .given .1)
-    (find-other-id .ensures) (c .before .before .tag-attributes .ensures)
+    (find-other-id .ensures) (tag-attributes .ensures)
 
 pub symbol-attributes-spec : {M : Type 1} → statement M
 symbol-attributes-spec =

@@ -22,8 +22,8 @@ loop-again : tie.Need-loop-again Inv-loop μ-loop
 loop-again c = (
   search needs,
   let back = c .before .before in let u16-at = back .u16-at in
-      let loop = back .before .before .loop in
-      let args = back .before .before .before .before .args in
+      let back = back .before .before in let loop = back .loop in
+      let args = back .before .before .args in
       known-more isListed (args .body .now) (loop .i) (u16-at .result) _ (u16-at .ensures) (loop .inv .1)
       (c .before .is-listed .ensures) (c .if1 .taken),
 )
@@ -32,8 +32,8 @@ returns : tie.Need-returns Inv-loop μ-loop
 returns c =
     let back = c .before .before in let u16-at = back .u16-at in
     let loop-test = back .before .loop-test in
-    let loop = back .before .before .loop in
-    let args = back .before .before .before .before .args in
+    let back = back .before .before in let loop = back .loop in
+    let args = back .before .before .args in
     known-not isListed (args .body .now) (loop .i) (args .n) (u16-at .result) _ (u16-at .ensures) (loop .inv .1)
     (c .before .is-listed .ensures) (c .if1 .left) (loop-test .taken)
 

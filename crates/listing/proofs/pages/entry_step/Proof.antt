@@ -24,12 +24,11 @@ returns c =
 
 returns-2 : tie.Need-returns-2
 returns-2 c =
-    let put-attributes = c .before .before .before .put-attributes in
-    let put-u32 = c .before .before .before .before .before .before .before .put-u32 in
-    let if1 = c .before .before .before .before .before .before .before .before .before .if1 in
-    let entry-size = c .before .before .before .before .before .before .before .before .before .before .entry-size in
-    let args = c .before .before .before .before .before .before .before .before .before .before .before .before .before
-    .before .args in
+    let back = c .before .before .before in let put-attributes = back .put-attributes in
+    let back = back .before .before .before .before in let put-u32 = back .put-u32 in
+    let back = back .before .before in let if1 = back .if1 in
+    let entry-size = back .before .entry-size in
+    let args = back .before .before .before .before .before .args in
     let d = made (args .name .now) (args .s) in
     let l = numbers (args .n) (drop 2 (args .body .now)) in
     let long = bytes-long d l (args .s .id) in

@@ -7,9 +7,10 @@ use Rattle.listing.proofs.pages.next_near.Tie as tie
 
 returns : tie.Need-returns
 returns c =
-    let back = c .before .before .before .before .before in let if1 = back .if1 in
+    let back = c .before .before in let is-at = back .is-at in
+    let back = back .before .before .before in let if1 = back .if1 in
     let pre = back .before .pre in
-    hint-next _ _ _ _ _ pre (if1 .taken) (sym (c .before .before .is-at .ensures) ∙ c .before .if2 .taken)
+    hint-next _ _ _ _ _ pre (if1 .taken) (sym (is-at .ensures) ∙ c .before .if2 .taken)
 
 pub next-near-spec : {M : Type 1} → statement M
 next-near-spec =

@@ -8,6 +8,22 @@ use borrow.Author.Needs.{needs}
 use Rattle.listing.proofs.pages.page_step.Statement.{statement}
 use Rattle.listing.proofs.pages.page_step.Tie as tie
 
+-- Earlier places, as later ones see them.
+abbrev start-from-next-near : tie.After-next-near → tie.Start
+start-from-next-near c = c .before .before .before .before .before
+
+abbrev next-near-from-i : tie.After-i → tie.After-next-near
+next-near-from-i c = c .before .before
+
+abbrev next-near-from-i2 : tie.After-i2 → tie.After-next-near
+next-near-from-i2 c = c .before .before
+
+abbrev i-from-part-of : tie.After-part-of → tie.After-i
+i-from-part-of c = c .before .before .before .before
+
+abbrev i2-from-part-of2 : tie.After-part-of2 → tie.After-i2
+i2-from-part-of2 c = c .before .before .before .before
+
 next-near-requires : tie.Need-next-near-requires
 next-near-requires c κs =
     let start = c .before .before .before .before in
@@ -16,8 +32,9 @@ next-near-requires c κs =
 
 mul-part-of : tie.Need-mul-part-of
 mul-part-of c =
-    let h = (let next-near = c .before .before .before .next-near in
-    let start = c .before .before .before .before .before .before .before .before in
+    let h = (let back = next-near-from-i (c .before) in
+    let next-near = back .next-near in
+    let start = start-from-next-near back in
     tag-there (start .args .structures .now) (start .args .tags .now) (start .args .others .now)
     (start .args .names .now) (start .args .tag-names .now) (start .args .scope) (start .args .bound) _
     (next-near .ensures) (start .pre .0) _ _ (c .before .i .given .1)) in
@@ -25,36 +42,39 @@ mul-part-of c =
 
 index-1-part-of : tie.Need-index-1-part-of
 index-1-part-of c =
-    let next-near = c .before .before .before .next-near in
-    let start = c .before .before .before .before .before .before .before .before in
+    let back = next-near-from-i (c .before) in
+    let next-near = back .next-near in
+    let start = start-from-next-near back in
     tag-there (start .args .structures .now) (start .args .tags .now) (start .args .others .now)
     (start .args .names .now) (start .args .tag-names .now) (start .args .scope) (start .args .bound) _
     (next-near .ensures) (start .pre .0) _ _ (c .before .i .given .1)
 
 mul-part-of-2 : tie.Need-mul-part-of-2
 mul-part-of-2 c =
-    let h = (let back = c .before .before .before .before in
-    let next-near = back .next-near in
-    let start = back .before .before .before .before .before in
+    let h = (let back = c .before .before in
+    let i = back .i in
+    let back = next-near-from-i back in let next-near = back .next-near in
+    let start = start-from-next-near back in
     tag-there (start .args .structures .now) (start .args .tags .now) (start .args .others .now)
     (start .args .names .now) (start .args .tag-names .now) (start .args .scope) (start .args .bound) _
-    (next-near .ensures) (start .pre .0) _ _ (c .before .before .i .given .1)) in
+    (next-near .ensures) (start .pre .0) _ _ (i .given .1)) in
     search needs
 
 index-1-part-of-2 : tie.Need-index-1-part-of-2
 index-1-part-of-2 c =
-    let back = c .before .before .before .before in let next-near = back .next-near in
-    let start = back .before .before .before .before .before in
+    let back = c .before .before in let i = back .i in
+    let back = next-near-from-i back in let next-near = back .next-near in
+    let start = start-from-next-near back in
     tag-there (start .args .structures .now) (start .args .tags .now) (start .args .others .now)
     (start .args .names .now) (start .args .tag-names .now) (start .args .scope) (start .args .bound) _
-    (next-near .ensures) (start .pre .0) _ _ (c .before .before .i .given .1)
+    (next-near .ensures) (start .pre .0) _ _ (i .given .1)
 
 mul-tag-symbol : tie.Need-mul-tag-symbol
 mul-tag-symbol c =
-    let h = (let back = c .before .before .before .before in
+    let h = (let back = i-from-part-of c in
     let i = back .i in
-    let next-near = back .before .before .next-near in
-    let start = back .before .before .before .before .before .before .before in
+    let back = next-near-from-i back in let next-near = back .next-near in
+    let start = start-from-next-near back in
     tag-there (start .args .structures .now) (start .args .tags .now) (start .args .others .now)
     (start .args .names .now) (start .args .tag-names .now) (start .args .scope) (start .args .bound) _
     (next-near .ensures) (start .pre .0) _ _ (i .given .1)) in
@@ -62,28 +82,29 @@ mul-tag-symbol c =
 
 shared-slice-element-tag-symbol : tie.Need-shared-slice-element-tag-symbol
 shared-slice-element-tag-symbol c =
-    let back = c .before .before .before .before in let i = back .i in
-    let next-near = back .before .before .next-near in
-    let start = back .before .before .before .before .before .before .before in
+    let back = i-from-part-of c in let i = back .i in
+    let back = next-near-from-i back in let next-near = back .next-near in
+    let start = start-from-next-near back in
     tag-there (start .args .structures .now) (start .args .tags .now) (start .args .others .now)
     (start .args .names .now) (start .args .tag-names .now) (start .args .scope) (start .args .bound) _
     (next-near .ensures) (start .pre .0) _ _ (i .given .1)
 
 tag-symbol-requires : tie.Need-tag-symbol-requires
 tag-symbol-requires c κs =
-    let back = c .before .before .before .before .before in let i = back .i in
-    let next-near = back .before .before .next-near in
-    let start = back .before .before .before .before .before .before .before in
+    let back = i-from-part-of (c .before) in
+    let i = back .i in
+    let back = next-near-from-i back in let next-near = back .next-near in
+    let start = start-from-next-near back in
     tag-listable (start .args .structures .now) (start .args .tags .now) (start .args .others .now)
     (start .args .names .now) (start .args .tag-names .now) (start .args .scope) (start .args .bound) _
     (next-near .ensures) (start .pre .0) _ _ (i .given .1)
 
 add-entry-step : tie.Need-add-entry-step
 add-entry-step c =
-    let h = (let back = c .before .before .before .before .before .before in
+    let h = (let back = i-from-part-of (c .before .before) in
     let i = back .i in
-    let next-near = back .before .before .next-near in
-    let start = back .before .before .before .before .before .before .before in
+    let back = next-near-from-i back in let next-near = back .next-near in
+    let start = start-from-next-near back in
     tag-there (start .args .structures .now) (start .args .tags .now) (start .args .others .now)
     (start .args .names .now) (start .args .tag-names .now) (start .args .scope) (start .args .bound) _
     (next-near .ensures) (start .pre .0) _ _ (i .given .1)) in
@@ -94,9 +115,9 @@ entry-step-requires c κs = (
   search needs,
   search needs,
   let back = c .before .before .before in let part-of = back .part-of in
-      let back = back .before .before .before .before in let i = back .i in
-      let next-near = back .before .before .next-near in
-      let start = back .before .before .before .before .before .before .before in
+      let back = i-from-part-of back in let i = back .i in
+      let back = next-near-from-i back in let next-near = back .next-near in
+      let start = start-from-next-near back in
       tag-name (start .args .structures .now) (start .args .tags .now) (start .args .others .now)
       (start .args .names .now) (start .args .tag-names .now) (start .args .scope) (start .args .bound) _
       (next-near .ensures) (start .pre .0) _ _ _ (i .given .1) (part-of .ensures),
@@ -106,8 +127,9 @@ entry-step-requires c κs = (
 
 mul-part-of-3 : tie.Need-mul-part-of-3
 mul-part-of-3 c =
-    let h = (let next-near = c .before .before .before .next-near in
-    let start = c .before .before .before .before .before .before .before .before in
+    let h = (let back = next-near-from-i2 (c .before) in
+    let next-near = back .next-near in
+    let start = start-from-next-near back in
     other-there (start .args .structures .now) (start .args .tags .now) (start .args .others .now)
     (start .args .names .now) (start .args .tag-names .now) (start .args .scope) (start .args .bound) _
     (next-near .ensures) (start .pre .0) _ _ (c .before .i2 .given .1)) in
@@ -115,36 +137,39 @@ mul-part-of-3 c =
 
 index-1-part-of-3 : tie.Need-index-1-part-of-3
 index-1-part-of-3 c =
-    let next-near = c .before .before .before .next-near in
-    let start = c .before .before .before .before .before .before .before .before in
+    let back = next-near-from-i2 (c .before) in
+    let next-near = back .next-near in
+    let start = start-from-next-near back in
     other-there (start .args .structures .now) (start .args .tags .now) (start .args .others .now)
     (start .args .names .now) (start .args .tag-names .now) (start .args .scope) (start .args .bound) _
     (next-near .ensures) (start .pre .0) _ _ (c .before .i2 .given .1)
 
 mul-part-of-4 : tie.Need-mul-part-of-4
 mul-part-of-4 c =
-    let h = (let back = c .before .before .before .before in
-    let next-near = back .next-near in
-    let start = back .before .before .before .before .before in
+    let h = (let back = c .before .before in
+    let i2 = back .i2 in
+    let back = next-near-from-i2 back in let next-near = back .next-near in
+    let start = start-from-next-near back in
     other-there (start .args .structures .now) (start .args .tags .now) (start .args .others .now)
     (start .args .names .now) (start .args .tag-names .now) (start .args .scope) (start .args .bound) _
-    (next-near .ensures) (start .pre .0) _ _ (c .before .before .i2 .given .1)) in
+    (next-near .ensures) (start .pre .0) _ _ (i2 .given .1)) in
     search needs
 
 index-1-part-of-4 : tie.Need-index-1-part-of-4
 index-1-part-of-4 c =
-    let back = c .before .before .before .before in let next-near = back .next-near in
-    let start = back .before .before .before .before .before in
+    let back = c .before .before in let i2 = back .i2 in
+    let back = next-near-from-i2 back in let next-near = back .next-near in
+    let start = start-from-next-near back in
     other-there (start .args .structures .now) (start .args .tags .now) (start .args .others .now)
     (start .args .names .now) (start .args .tag-names .now) (start .args .scope) (start .args .bound) _
-    (next-near .ensures) (start .pre .0) _ _ (c .before .before .i2 .given .1)
+    (next-near .ensures) (start .pre .0) _ _ (i2 .given .1)
 
 mul-other-symbol : tie.Need-mul-other-symbol
 mul-other-symbol c =
-    let h = (let back = c .before .before .before .before in
+    let h = (let back = i2-from-part-of2 c in
     let i2 = back .i2 in
-    let next-near = back .before .before .next-near in
-    let start = back .before .before .before .before .before .before .before in
+    let back = next-near-from-i2 back in let next-near = back .next-near in
+    let start = start-from-next-near back in
     other-there (start .args .structures .now) (start .args .tags .now) (start .args .others .now)
     (start .args .names .now) (start .args .tag-names .now) (start .args .scope) (start .args .bound) _
     (next-near .ensures) (start .pre .0) _ _ (i2 .given .1)) in
@@ -152,9 +177,9 @@ mul-other-symbol c =
 
 shared-slice-element-other-symbol : tie.Need-shared-slice-element-other-symbol
 shared-slice-element-other-symbol c =
-    let back = c .before .before .before .before in let i2 = back .i2 in
-    let next-near = back .before .before .next-near in
-    let start = back .before .before .before .before .before .before .before in
+    let back = i2-from-part-of2 c in let i2 = back .i2 in
+    let back = next-near-from-i2 back in let next-near = back .next-near in
+    let start = start-from-next-near back in
     other-there (start .args .structures .now) (start .args .tags .now) (start .args .others .now)
     (start .args .names .now) (start .args .tag-names .now) (start .args .scope) (start .args .bound) _
     (next-near .ensures) (start .pre .0) _ _ (i2 .given .1)
@@ -164,9 +189,9 @@ entry-step-requires-2 c κs = (
   search needs,
   search needs,
   let back = c .before .before .before in let part-of2 = back .part-of2 in
-      let back = back .before .before .before .before in let i2 = back .i2 in
-      let next-near = back .before .before .next-near in
-      let start = back .before .before .before .before .before .before .before in
+      let back = i2-from-part-of2 back in let i2 = back .i2 in
+      let back = next-near-from-i2 back in let next-near = back .next-near in
+      let start = start-from-next-near back in
       other-name (start .args .structures .now) (start .args .tags .now) (start .args .others .now)
       (start .args .names .now) (start .args .tag-names .now) (start .args .scope) (start .args .bound) _
       (next-near .ensures) (start .pre .0) _ _ _ (i2 .given .1) (part-of2 .ensures),
@@ -182,9 +207,9 @@ returns c =
     let back = c .before .before in let entry-step = back .entry-step in
     let back = back .before .before in let tag-symbol = back .tag-symbol in
     let back = back .before .before in let part-of = back .part-of in
-    let back = back .before .before .before .before in let i = back .i in
-    let next-near = back .before .before .next-near in
-    let args = back .before .before .before .before .before .before .before .args in (
+    let back = i-from-part-of back in let i = back .i in
+    let back = next-near-from-i back in let next-near = back .next-near in
+    let args = start-from-next-near back .args in (
       λ m p z y v. tag-step (args .structures .now) (args .tags .now) (args .others .now) (args .names .now)
           (args .tag-names .now) (args .scope) (args .bound) _ (next-near .ensures) m p z y v
           (numbers (args .n) (drop 2 (args .body .now))) _ _ _ _ _ (tag-symbol .result) _ _ _ (i .given .1)
@@ -197,9 +222,9 @@ returns-2 c =
     let back = c .before .before in let entry-step2 = back .entry-step2 in
     let back = back .before .before in let other-symbol = back .other-symbol in
     let back = back .before .before in let part-of2 = back .part-of2 in
-    let back = back .before .before .before .before in let i2 = back .i2 in
-    let next-near = back .before .before .next-near in
-    let args = back .before .before .before .before .before .before .before .args in (
+    let back = i2-from-part-of2 back in let i2 = back .i2 in
+    let back = next-near-from-i2 back in let next-near = back .next-near in
+    let args = start-from-next-near back .args in (
       λ m p z y v. other-step (args .structures .now) (args .tags .now) (args .others .now) (args .names .now)
           (args .tag-names .now) (args .scope) (args .bound) _ (next-near .ensures) m p z y v
           (numbers (args .n) (drop 2 (args .body .now))) _ _ _ _ _ (other-symbol .result) _ _ _ (i2 .given .1)
@@ -209,9 +234,10 @@ returns-2 c =
 
 returns-3 : tie.Need-returns-3
 returns-3 c =
-    let args = c .before .before .before .before .before .before .before .args in (
+    let back = c .before .before in let next-near = back .next-near in
+    let args = start-from-next-near back .args in (
       λ m p z y v. none-step (args .structures .now) (args .tags .now) (args .others .now) (args .names .now)
-          (args .tag-names .now) (args .scope) (args .bound) _ (c .before .before .next-near .ensures) m p z y v
+          (args .tag-names .now) (args .scope) (args .bound) _ (next-near .ensures) m p z y v
           (numbers (args .n) (drop 2 (args .body .now))) _ _ _ (c .enum-told .given .1),
       tt,
     )

@@ -29,8 +29,8 @@ loop-less c =
 loop-again : tie.Need-loop-again Inv-loop μ-loop
 loop-again c =
     let u = c .before .u in
-    let page-step = c .before .before .before .before .before .page-step in
-    let loop = c .before .before .before .before .before .before .before .loop in
+    let back = c .before .before .before .before .before in let page-step = back .page-step in
+    let loop = back .before .before .loop in
     let f = further-more _ _ _ (u .given .1) (page-step .ensures .1) in (
       search needs,
       search needs,
@@ -44,23 +44,25 @@ enum-told c = search needs
 
 returns : tie.Need-returns Inv-loop μ-loop
 returns c =
-    let back = c .before .before .before .before in let enum-told = back .enum-told in
+    let back = c .before .before in let stop = back .stop in
+    let back = back .before .before in let enum-told = back .enum-told in
     let back = back .before .before .before .before in let page-step = back .page-step in
     let back = back .before .before in let loop = back .loop in
     let end-of = back .before .end-of in
     let pre = back .before .before .before .before .before .before .pre in
     λ m p z y v. page-stopped _ _ _ _ _ _ _ _ _ _ _ _ _ (loop .inv .3 m p z y v) (page-step .ensures .0 m p z y v)
-    (enum-told .given .1) (loop .inv .1) (end-of .ensures) (pre .3) (c .before .before .stop .ensures)
+    (enum-told .given .1) (loop .inv .1) (end-of .ensures) (pre .3) (stop .ensures)
 
 returns-2 : tie.Need-returns-2 Inv-loop μ-loop
 returns-2 c =
-    let back = c .before .before .before .before in let enum-told2 = back .enum-told2 in
+    let back = c .before .before in let close = back .close in
+    let back = back .before .before in let enum-told2 = back .enum-told2 in
     let back = back .before .before .before .before in let page-step = back .page-step in
     let back = back .before .before in let loop = back .loop in
     let end-of = back .before .end-of in
     let pre = back .before .before .before .before .before .before .pre in
     λ m p z y v. page-ended _ _ _ _ _ _ _ _ _ _ _ _ _ (loop .inv .3 m p z y v) (page-step .ensures .0 m p z y v)
-    (enum-told2 .given .1) (loop .inv .1) (end-of .ensures) (pre .3) (c .before .before .close .ensures)
+    (enum-told2 .given .1) (loop .inv .1) (end-of .ensures) (pre .3) (close .ensures)
 
 pub put-page-spec : {M : Type 1} → statement M
 put-page-spec =

@@ -6,13 +6,15 @@ use Rattle.listing.proofs.pages.stop.Tie as tie
 
 returns : tie.Need-returns
 returns c =
-    let if1 = c .before .before .before .before .if1 in
-    rw (eq-eqb _ 4 (if1 .taken)) (c .before .before .fail .ensures)
+    let back = c .before .before in let fail = back .fail in
+    let if1 = back .before .before .if1 in
+    rw (eq-eqb _ 4 (if1 .taken)) (fail .ensures)
 
 returns-2 : tie.Need-returns-2
 returns-2 c =
-    let if1 = c .before .before .before .before .if1 in
-    rw (ne-eqb _ 4 (if1 .left)) (c .before .before .close .ensures)
+    let back = c .before .before in let close = back .close in
+    let if1 = back .before .before .if1 in
+    rw (ne-eqb _ 4 (if1 .left)) (close .ensures)
 
 pub stop-spec : {M : Type 1} → statement M
 stop-spec =

@@ -13,15 +13,14 @@ symbol-name-requires c κs = search page-starts
 
 scope-of-requires : tie.Need-scope-of-requires
 scope-of-requires c κs =
-    let program-of = c .before .before .before .program-of in
-    let symbol-name = c .before .before .before .before .symbol-name in
-    let args = c .before .before .before .before .before .before .before .before .before .before .before .before .args in
-    let pre = c .before .before .before .before .before .before .before .before .before .before .before .before .pre in
+    let back = c .before .before .before in let program-of = back .program-of in
+    let symbol-name = back .before .symbol-name in
+    let start = back .before .before .before .before .before .before .before .before .before in
     omega (
       arith,
-      program-inside (args .programs .now) (args .names .now) (symbol-name .result .now) _ _ (c .before .k .given .1)
-          (program-of .ensures),
-      pre .1,
+      program-inside (start .args .programs .now) (start .args .names .now) (symbol-name .result .now) _ _
+          (c .before .k .given .1) (program-of .ensures),
+      start .pre .1,
     )
 
 start-in-requires-2 : tie.Need-start-in-requires-2

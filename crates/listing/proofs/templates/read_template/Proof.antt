@@ -4,38 +4,49 @@ use borrow.Author.Needs.{needs}
 use Rattle.listing.proofs.templates.read_template.Statement.{statement}
 use Rattle.listing.proofs.templates.read_template.Tie as tie
 
+-- Earlier places, as later ones see them.
+abbrev start-from-find-template : tie.After-find-template → tie.Start
+start-from-find-template c = c .before .before .before .before .before
+
+abbrev find-template-from-i : tie.After-i → tie.After-find-template
+find-template-from-i c = c .before .before
+
 mul-template-reply : tie.Need-mul-template-reply
 mul-template-reply c =
-    let h = (let find-template = c .before .before .before .find-template in
-    let args = c .before .before .before .before .before .before .before .before .args in
+    let h = (let back = find-template-from-i (c .before) in
+    let find-template = back .find-template in
+    let args = start-from-find-template back .args in
     template-inside (args .structures .now) (args .id) _ _ (c .before .i .given .1) (find-template .ensures)) in
     search needs
 
 index-1-template-reply : tie.Need-index-1-template-reply
 index-1-template-reply c =
-    let find-template = c .before .before .before .find-template in
-    let args = c .before .before .before .before .before .before .before .before .args in
+    let back = find-template-from-i (c .before) in
+    let find-template = back .find-template in
+    let args = start-from-find-template back .args in
     template-inside (args .structures .now) (args .id) _ _ (c .before .i .given .1) (find-template .ensures)
 
 mul-template-reply-2 : tie.Need-mul-template-reply-2
 mul-template-reply-2 c =
-    let h = (let back = c .before .before .before .before in
-    let find-template = back .find-template in
-    let args = back .before .before .before .before .before .args in
-    template-inside (args .structures .now) (args .id) _ _ (c .before .before .i .given .1) (find-template .ensures)) in
+    let h = (let back = c .before .before in
+    let i = back .i in
+    let back = find-template-from-i back in let find-template = back .find-template in
+    let args = start-from-find-template back .args in
+    template-inside (args .structures .now) (args .id) _ _ (i .given .1) (find-template .ensures)) in
     search needs
 
 index-1-template-reply-2 : tie.Need-index-1-template-reply-2
 index-1-template-reply-2 c =
-    let back = c .before .before .before .before in let find-template = back .find-template in
-    let args = back .before .before .before .before .before .args in
-    template-inside (args .structures .now) (args .id) _ _ (c .before .before .i .given .1) (find-template .ensures)
+    let back = c .before .before in let i = back .i in
+    let back = find-template-from-i back in let find-template = back .find-template in
+    let args = start-from-find-template back .args in
+    template-inside (args .structures .now) (args .id) _ _ (i .given .1) (find-template .ensures)
 
 template-reply-requires : tie.Need-template-reply-requires
 template-reply-requires c κs = (
   let back = c .before .before .before .before in let i = back .i in
-      let find-template = back .before .before .find-template in
-      let start = back .before .before .before .before .before .before .before in
+      let back = find-template-from-i back in let find-template = back .find-template in
+      let start = start-from-find-template back in
       start .pre .0 _
       (template-inside (start .args .structures .now) (start .args .id) _ _ (i .given .1) (find-template .ensures)),
   search needs,
@@ -46,21 +57,21 @@ enum-told c = search needs
 
 returns : tie.Need-returns
 returns c =
-    let back = c .before .before .before .before .before .before .before in let i = back .i in
-    let find-template = back .before .before .find-template in
-    let args = back .before .before .before .before .before .before .before .args in
+    let back = c .before .before in let template-reply = back .template-reply in
+    let back = back .before .before .before .before .before in let i = back .i in
+    let back = find-template-from-i back in let find-template = back .find-template in
+    let args = start-from-find-template back .args in
     λ m p t o n q. read-found (args .structures .now) m p t o n q (args .templates .now) (args .service) (args .id)
-    (args .body .now) (args .limit) _ _ _ _ _ (i .given .1) (find-template .ensures)
-    (c .before .before .template-reply .ensures)
+    (args .body .now) (args .limit) _ _ _ _ _ (i .given .1) (find-template .ensures) (template-reply .ensures)
 
 returns-2 : tie.Need-returns-2
 returns-2 c =
-    let back = c .before .before .before .before in let enum-told = back .enum-told in
-    let find-template = back .before .before .find-template in
-    let args = back .before .before .before .before .before .before .before .args in
+    let back = c .before .before in let fail = back .fail in
+    let back = back .before .before in let enum-told = back .enum-told in
+    let back = back .before .before in let find-template = back .find-template in
+    let args = start-from-find-template back .args in
     λ m p t o n q. read-unknown (args .structures .now) m p t o n q (args .templates .now) (args .service) (args .id)
-    (args .body .now) (args .limit) _ _ _ _ (enum-told .given .1) (find-template .ensures)
-    (c .before .before .fail .ensures)
+    (args .body .now) (args .limit) _ _ _ _ (enum-told .given .1) (find-template .ensures) (fail .ensures)
 
 pub read-template-spec : {M : Type 1} → statement M
 read-template-spec =

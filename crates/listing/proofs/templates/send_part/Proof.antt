@@ -7,19 +7,19 @@ use Rattle.listing.proofs.templates.send_part.Tie as tie
 
 returns : tie.Need-returns
 returns c =
-    let back = c .before .before .before .before in let if1 = back .if1 in
+    let back = c .before .before in let fail = back .fail in
+    let back = back .before .before in let if1 = back .if1 in
     let nothing-fits = back .before .nothing-fits in
     let space-of = back .before .before .space-of in
-    sent-none _ _ _ _ _ _ _ _ _ (space-of .ensures) _ (nothing-fits .ensures) (if1 .taken)
-    (c .before .before .fail .ensures)
+    sent-none _ _ _ _ _ _ _ _ _ (space-of .ensures) _ (nothing-fits .ensures) (if1 .taken) (fail .ensures)
 
 send-requires : tie.Need-send-requires
 send-requires c κs = (
-  let back = c .before .before .before in let smaller = back .smaller in
-      let space-of = back .before .before .before .space-of in
-      let args = back .before .before .before .before .before .before .before .args in
-      part-fits (args .templates .now) _ (args .from) _ _ _ _ (space-of .ensures) (smaller .ensures)
-      (c .before .before .chunk .ensures),
+  let back = c .before .before in let chunk = back .chunk in
+      let smaller = back .before .smaller in
+      let back = back .before .before .before .before in let space-of = back .space-of in
+      let args = back .before .before .before .before .args in
+      part-fits (args .templates .now) _ (args .from) _ _ _ _ (space-of .ensures) (smaller .ensures) (chunk .ensures),
   search needs,
   let back = c .before .before .before .before .before .before in let space-of = back .space-of in
       let args = back .before .before .before .before .args in
@@ -28,14 +28,15 @@ send-requires c κs = (
 
 returns-2 : tie.Need-returns-2
 returns-2 c =
-    let back = c .before .before .before .before in let part-status = back .part-status in
-    let back = back .before in let chunk = back .chunk in
-    let smaller = back .before .smaller in
-    let back = back .before .before in let if1 = back .if1 in
-    let nothing-fits = back .before .nothing-fits in
-    let space-of = back .before .before .space-of in
+    let back = c .before .before in let send = back .send in
+    let back = back .before .before in let part-status = back .part-status in
+    let chunk = back .before .chunk in
+    let back = back .before .before in let smaller = back .smaller in
+    let if1 = back .before .if1 in
+    let back = back .before .before in let nothing-fits = back .nothing-fits in
+    let space-of = back .before .space-of in
     sent-part _ _ _ _ _ _ _ _ _ (space-of .ensures) _ _ _ _ (nothing-fits .ensures) (if1 .left) (smaller .ensures)
-    (part-status .ensures) (chunk .ensures) (c .before .before .send .ensures)
+    (part-status .ensures) (chunk .ensures) (send .ensures)
 
 pub send-part-spec : {M : Type 1} → statement M
 send-part-spec =

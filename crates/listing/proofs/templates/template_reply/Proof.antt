@@ -6,15 +6,17 @@ use Rattle.listing.proofs.templates.template_reply.Tie as tie
 
 returns : tie.Need-returns
 returns c =
-    let if1 = c .before .before .before .before .if1 in
-    asked-short _ _ _ _ _ _ _ _ _ (if1 .taken) (c .before .before .fail .ensures)
+    let back = c .before .before in let fail = back .fail in
+    let if1 = back .before .before .if1 in
+    asked-short _ _ _ _ _ _ _ _ _ (if1 .taken) (fail .ensures)
 
 returns-2 : tie.Need-returns-2
 returns-2 c =
-    let back = c .before .before .before .before in let if2 = back .if2 in
+    let back = c .before .before in let fail2 = back .fail2 in
+    let back = back .before .before in let if2 = back .if2 in
     let u32-at = back .before .u32-at in
     let if1 = back .before .before .if1 in
-    asked-beyond _ _ _ _ _ _ _ _ _ _ (if1 .left) (u32-at .ensures) (if2 .taken) (c .before .before .fail2 .ensures)
+    asked-beyond _ _ _ _ _ _ _ _ _ _ (if1 .left) (u32-at .ensures) (if2 .taken) (fail2 .ensures)
 
 returns-3 : tie.Need-returns-3
 returns-3 c =

@@ -8,8 +8,9 @@ use Rattle.listing.proofs.values.put_reference.Tie as tie
 
 returns : tie.Need-returns
 returns c =
-    let copy-into = c .before .before .before .before .before .before .copy-into in
-    put-then _ _ _ _ _ _ _ (copy-into .ensures) (c .before .before .put-u16 .ensures) refl (omega arith)
+    let back = c .before .before in let put-u16 = back .put-u16 in
+    let copy-into = back .before .before .before .before .copy-into in
+    put-then _ _ _ _ _ _ _ (copy-into .ensures) (put-u16 .ensures) refl (omega arith)
 
 pub put-reference-spec : {M : Type 1} → statement M
 put-reference-spec =

@@ -8,10 +8,11 @@ use Rattle.listing.proofs.values.put_three.Tie as tie
 
 returns : tie.Need-returns
 returns c =
-    let put-u322 = c .before .before .before .before .before .before .put-u322 in
-    let put-u32 = c .before .before .before .before .before .before .before .before .before .before .put-u32 in
+    let back = c .before .before in let put-u323 = back .put-u323 in
+    let back = back .before .before .before .before in let put-u322 = back .put-u322 in
+    let put-u32 = back .before .before .before .before .put-u32 in
     put-then _ _ _ _ _ _ _ (put-then _ _ _ _ _ _ _ (put-u32 .ensures) (put-u322 .ensures) refl (omega arith))
-    (c .before .before .put-u323 .ensures) refl (omega arith)
+    (put-u323 .ensures) refl (omega arith)
 
 pub put-three-spec : {M : Type 1} → statement M
 put-three-spec =
