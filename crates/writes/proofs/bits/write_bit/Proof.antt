@@ -25,13 +25,13 @@ returns-4 c = refuses _ _ _ _ (search chain) refl
 
 returns-5 : tie.Need-returns-5
 returns-5 c =
-    let back = c .before .before .before .before in let with-bit = back .with-bit in
+    let back = c .before .before in let put-u8 = back .put-u8 in
+    let back = back .before .before in let with-bit = back .with-bit in
     let back = back .before .before .before in let if4 = back .if4 in
     let if3 = back .before .if3 in
-    let if2 = back .before .before .if2 in
-    let if1 = back .before .before .before .before .if1 in
-    puts-bit _ _ _ _ _ (if1 .left) (if2 .left) (if3 .left) (if4 .left) (with-bit .ensures)
-    (c .before .before .put-u8 .ensures)
+    let back = back .before .before in let if2 = back .if2 in
+    let if1 = back .before .before .if1 in
+    puts-bit _ _ _ _ _ (if1 .left) (if2 .left) (if3 .left) (if4 .left) (with-bit .ensures) (put-u8 .ensures)
 
 pub write-bit-spec : {M : Type 1} → statement M
 write-bit-spec =

@@ -29,12 +29,11 @@ loop-holds c = (
 
 loop-again : tie.Need-loop-again Inv-loop μ-loop
 loop-again c =
-    let loop-test = c .before .before .before .before .loop-test in
-    let loop = c .before .before .before .before .before .loop in
-    let args = c .before .before .before .before .before .before .before .before .before .args in
-    let pre = c .before .before .before .before .before .before .before .before .before .pre in (
-      mask-turn (args .memory .now) (args .at) (args .ors .now) (args .ands .now) (pre .0) (pre .1) _ _ (loop .inv .0) _
-          _ (loop-test .taken) (c .mask-byte .ensures) refl,
+    let back = c .before .before .before .before in let loop-test = back .loop-test in
+    let loop = back .before .loop in
+    let start = back .before .before .before .before .before in (
+      mask-turn (start .args .memory .now) (start .args .at) (start .args .ors .now) (start .args .ands .now)
+          (start .pre .0) (start .pre .1) _ _ (loop .inv .0) _ _ (loop-test .taken) (c .mask-byte .ensures) refl,
       search needs,
       simp length-set (loop .inv .2),
     )

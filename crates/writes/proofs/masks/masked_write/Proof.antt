@@ -12,8 +12,9 @@ returns-2 c = masks-short _ _ _ _ _ (c .before .before .u16-at .ensures) (c .bef
 
 returns-3 : tie.Need-returns-3
 returns-3 c =
-    let u16-at = c .before .before .before .u16-at in
-    masks-long _ _ _ _ _ (u16-at .ensures) (c .before .before .wide16 .ensures) (c .before .if2 .left) (c .if3 .taken)
+    let back = c .before .before in let wide16 = back .wide16 in
+    let u16-at = back .before .u16-at in
+    masks-long _ _ _ _ _ (u16-at .ensures) (wide16 .ensures) (c .before .if2 .left) (c .if3 .taken)
 
 apply-masks-requires : tie.Need-apply-masks-requires
 apply-masks-requires c κs =
@@ -29,22 +30,24 @@ apply-masks-requires c κs =
 
 returns-4 : tie.Need-returns-4
 returns-4 c =
-    let back = c .before .before .before .before .before .before in let if4 = back .if4 in
-    let back = back .before in let takes-mask = back .takes-mask in
-    let if3 = back .before .if3 in
-    let back = back .before .before in let if2 = back .if2 in
-    let wide16 = back .before .wide16 in
-    let u16-at = back .before .before .u16-at in
+    let back = c .before .before in let apply-masks = back .apply-masks in
+    let back = back .before .before .before .before in let if4 = back .if4 in
+    let takes-mask = back .before .takes-mask in
+    let back = back .before .before in let if3 = back .if3 in
+    let if2 = back .before .if2 in
+    let back = back .before .before in let wide16 = back .wide16 in
+    let u16-at = back .before .u16-at in
     masks-put _ _ _ _ _ (u16-at .ensures) (wide16 .ensures) (if2 .left) (if3 .left) _ (takes-mask .ensures) _
-    (if4 .taken) (c .before .before .apply-masks .ensures)
+    (if4 .taken) (apply-masks .ensures)
 
 returns-5 : tie.Need-returns-5
 returns-5 c =
-    let back = c .before .before .before in let if2 = back .if2 in
-    let wide16 = back .before .wide16 in
-    let u16-at = back .before .before .u16-at in
-    masks-wrong _ _ _ _ _ (u16-at .ensures) (wide16 .ensures) (if2 .left) (c .before .before .if3 .left) _
-    (c .before .takes-mask .ensures) (c .if4 .left)
+    let back = c .before .before in let if3 = back .if3 in
+    let if2 = back .before .if2 in
+    let back = back .before .before in let wide16 = back .wide16 in
+    let u16-at = back .before .u16-at in
+    masks-wrong _ _ _ _ _ (u16-at .ensures) (wide16 .ensures) (if2 .left) (if3 .left) _ (c .before .takes-mask .ensures)
+    (c .if4 .left)
 
 pub masked-write-spec : {M : Type 1} → statement M
 masked-write-spec =

@@ -13,15 +13,10 @@ returns c = search chain
 returns-2 : tie.Need-returns-2
 unfolding takesMask
 returns-2 c =
-    let has-bits = c .before .before .before .has-bits in
-    let if1 = c .before .before .before .before .if1 in
-    rw (
-      eq-eqb _ _ (if1 .left),
-      ← (has-bits .ensures),
-      c .before .before .if2 .taken,
-      c .wide .ensures,
-      c .before .atomic-size .ensures,
-    )
+    let back = c .before .before in let if2 = back .if2 in
+    let has-bits = back .before .has-bits in
+    let if1 = back .before .before .if1 in
+    rw (eq-eqb _ _ (if1 .left), ← (has-bits .ensures), if2 .taken, c .wide .ensures, c .before .atomic-size .ensures)
 
 returns-3 : tie.Need-returns-3
 unfolding takesMask

@@ -14,18 +14,19 @@ u16-at-requires-2 c κs =
 returns : tie.Need-returns
 unfolding fieldsOf
 returns c =
-    let word162 = c .before .before .before .word162 in
-    let u16-at2 = c .before .before .before .before .u16-at2 in
-    let word16 = c .before .before .before .before .before .word16 in
-    let u16-at = c .before .before .before .before .before .before .u16-at in
-    let type-size = c .before .before .before .before .before .before .before .type-size in
+    let back = c .before .before in let u16-at3 = back .u16-at3 in
+    let word162 = back .before .word162 in
+    let back = back .before .before in let u16-at2 = back .u16-at2 in
+    let word16 = back .before .word16 in
+    let back = back .before .before in let u16-at = back .u16-at in
+    let type-size = back .before .type-size in
     rw (
       word16 .ensures,
       u16-at .ensures,
       word162 .ensures,
       u16-at2 .ensures,
       c .before .wide16 .ensures,
-      c .before .before .u16-at3 .ensures,
+      u16-at3 .ensures,
       c .offset-at .ensures,
       type-size .ensures,
     )

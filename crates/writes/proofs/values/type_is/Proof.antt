@@ -13,10 +13,11 @@ returns-2 c = search chain
 
 returns-3 : tie.Need-returns-3
 returns-3 c =
-    let if1 = c .before .before .before .if1 in
+    let back = c .before .before in let if2 = back .if2 in
+    let if1 = back .before .if1 in
     rw (
       le-leb _ _ (if1 .left),
-      eq-eqb _ _ (c .before .before .if2 .left),
+      eq-eqb _ _ (if2 .left),
       ← (c .before .index-of .ensures),
       ← (c .structure-handle .ensures),
     )

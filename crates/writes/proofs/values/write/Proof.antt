@@ -19,21 +19,23 @@ write-bit-requires c κs =
 
 returns-3 : tie.Need-returns-3
 returns-3 c =
-    let back = c .before .before .before .before .before in let if3 = back .if3 in
+    let back = c .before .before in let write-bit = back .write-bit in
+    let back = back .before .before .before in let if3 = back .if3 in
     let back = back .before .before in let fields-of = back .fields-of in
     let if2 = back .before .if2 in
     let fields-size = back .before .before .fields-size in
     writes-bit _ _ _ _ _ _ (fields-size .ensures) _ (if2 .left) (fields-of .ensures) _ _ (if3 .taken)
-    (c .before .before .write-bit .ensures)
+    (write-bit .ensures)
 
 returns-4 : tie.Need-returns-4
 returns-4 c =
-    let back = c .before .before .before .before .before in let if3 = back .if3 in
+    let back = c .before .before in let write-value = back .write-value in
+    let back = back .before .before .before in let if3 = back .if3 in
     let back = back .before .before in let fields-of = back .fields-of in
     let if2 = back .before .if2 in
     let fields-size = back .before .before .fields-size in
     writes-value _ _ _ _ _ _ (fields-size .ensures) _ (if2 .left) (fields-of .ensures) _ _ (if3 .left)
-    (c .before .before .write-value .ensures)
+    (write-value .ensures)
 
 pub write-spec : {M : Type 1} → statement M
 write-spec =

@@ -24,9 +24,10 @@ returns-2 c =
 returns-3 : tie.Need-returns-3
 unfolding writePart
 returns-3 c =
-    let args = c .before .before .before .before .before .before .before .before .before .before .before .before .args in
+    let back = c .before .before in let copy-into = back .copy-into in
+    let args = back .before .before .before .before .before .before .before .before .before .before .args in
     puts _ _ _ _ _ (let h : args .w .offset + length (args .value .now) ≤ args .total = omega arith in search chain)
-    (c .before .before .copy-into .ensures)
+    (copy-into .ensures)
 
 returns-4 : tie.Need-returns-4
 unfolding writePart
