@@ -28,18 +28,20 @@ loop-holds c = (search needs, tests-start _ _)
 
 returns-2 : tie.Need-returns-2 Inv-loop μ-loop
 returns-2 c =
-    let loop-test = c .before .before .before .loop-test in
-    let loop = c .before .before .before .before .loop in
-    stops _ _ _ _ (loop .inv .1) (loop-test .taken) _ (c .before .before .test-breach .ensures) _
-    (c .before .is-broken .ensures) (c .if2 .taken)
+    let back = c .before .before in let test-breach = back .test-breach in
+    let loop-test = back .before .loop-test in
+    let loop = back .before .before .loop in
+    stops _ _ _ _ (loop .inv .1) (loop-test .taken) _ (test-breach .ensures) _ (c .before .is-broken .ensures)
+    (c .if2 .taken)
 
 loop-again : tie.Need-loop-again Inv-loop μ-loop
 loop-again c = (
   search needs,
-  let loop-test = c .before .before .before .loop-test in
-      let loop = c .before .before .before .before .loop in
-      goes-on _ _ _ _ (loop .inv .1) (loop-test .taken) _ (c .before .before .test-breach .ensures) _
-      (c .before .is-broken .ensures) (c .if2 .left) refl,
+  let back = c .before .before in let test-breach = back .test-breach in
+      let loop-test = back .before .loop-test in
+      let loop = back .before .before .loop in
+      goes-on _ _ _ _ (loop .inv .1) (loop-test .taken) _ (test-breach .ensures) _ (c .before .is-broken .ensures)
+      (c .if2 .left) refl,
 )
 
 returns-3 : tie.Need-returns-3 Inv-loop μ-loop

@@ -27,17 +27,17 @@ loop-again c = (
   search needs,
   search needs,
   c .before .before .before .before .loop .inv .2,
-  let loop = c .before .before .before .before .loop in
-      row-passes _ _ _ _ _ _ _ (loop .inv .3) (c .before .before .if1 .taken) _ (c .before .holds .ensures)
-      (c .if2 .taken) refl,
+  let back = c .before .before in let if1 = back .if1 in
+      let loop = back .before .before .loop in
+      row-passes _ _ _ _ _ _ _ (loop .inv .3) (if1 .taken) _ (c .before .holds .ensures) (c .if2 .taken) refl,
 )
 
 returns : tie.Need-returns Inv-loop μ-loop
 returns c =
-    let if1 = c .before .before .before .if1 in
-    let loop = c .before .before .before .before .before .loop in
-    row-breaks _ _ _ _ _ _ _ (loop .inv .3) (if1 .taken) _ (c .before .before .holds .ensures) _ (c .before .if2 .left)
-    (c .tell .ensures)
+    let back = c .before .before in let holds = back .holds in
+    let if1 = back .before .if1 in
+    let loop = back .before .before .before .loop in
+    row-breaks _ _ _ _ _ _ _ (loop .inv .3) (if1 .taken) _ (holds .ensures) _ (c .before .if2 .left) (c .tell .ensures)
 
 returns-2 : tie.Need-returns-2 Inv-loop μ-loop
 returns-2 c = first-end _ _ _ _ (c .before .before .loop .inv .3) (search needs)

@@ -24,19 +24,21 @@ loop-holds c = (search needs, c .others-of .ensures, others-start _ _ (c .others
 
 returns : tie.Need-returns Inv-loop μ-loop
 returns c =
-    let loop-test = c .before .before .before .loop-test in
-    let loop = c .before .before .before .before .loop in
-    stops _ _ _ _ (loop .inv .2) (loop-test .taken) _ (c .before .before .row-breach .ensures) _
-    (c .before .is-broken .ensures) (c .if1 .taken)
+    let back = c .before .before in let row-breach = back .row-breach in
+    let loop-test = back .before .loop-test in
+    let loop = back .before .before .loop in
+    stops _ _ _ _ (loop .inv .2) (loop-test .taken) _ (row-breach .ensures) _ (c .before .is-broken .ensures)
+    (c .if1 .taken)
 
 loop-again : tie.Need-loop-again Inv-loop μ-loop
 loop-again c = (
   search needs,
   c .before .before .before .before .loop .inv .1,
-  let loop-test = c .before .before .before .loop-test in
-      let loop = c .before .before .before .before .loop in
-      goes-on _ _ _ _ (loop .inv .2) (loop-test .taken) _ (c .before .before .row-breach .ensures) _
-      (c .before .is-broken .ensures) (c .if1 .left) refl,
+  let back = c .before .before in let row-breach = back .row-breach in
+      let loop-test = back .before .loop-test in
+      let loop = back .before .before .loop in
+      goes-on _ _ _ _ (loop .inv .2) (loop-test .taken) _ (row-breach .ensures) _ (c .before .is-broken .ensures)
+      (c .if1 .left) refl,
 )
 
 returns-2 : tie.Need-returns-2 Inv-loop μ-loop
