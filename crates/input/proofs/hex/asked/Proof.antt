@@ -9,15 +9,17 @@ returns c = reads-none _ (is-empty _ _ _ (c .before .scan .ensures .2) (search n
 
 returns-2 : tie.Need-returns-2
 returns-2 c =
-    let if2 = c .before .before .before .before .if2 in
-    let scan = c .before .before .before .before .before .before .before .scan in
-    reads-as (is-limited _ _ _ (scan .ensures .2) (search needs) (if2 .taken)) (c .before .before .limited .ensures)
+    let back = c .before .before in let limited = back .limited in
+    let back = back .before .before in let if2 = back .if2 in
+    let scan = back .before .before .before .scan in
+    reads-as (is-limited _ _ _ (scan .ensures .2) (search needs) (if2 .taken)) (limited .ensures)
 
 returns-3 : tie.Need-returns-3
 returns-3 c =
-    let if2 = c .before .before .before .before .if2 in
-    let scan = c .before .before .before .before .before .before .before .scan in
-    reads-as (is-plain _ _ _ (scan .ensures .2) (search needs) (if2 .left)) (c .before .before .bytes .ensures)
+    let back = c .before .before in let bytes = back .bytes in
+    let back = back .before .before in let if2 = back .if2 in
+    let scan = back .before .before .before .scan in
+    reads-as (is-plain _ _ _ (scan .ensures .2) (search needs) (if2 .left)) (bytes .ensures)
 
 pub asked-spec : {M : Type 1} → statement M
 asked-spec =

@@ -15,6 +15,10 @@ Inv-loop text start limit request₀ at₀ n₀ request at n =
 abbrev μ-loop : tie.MeasureT-loop
 μ-loop text start limit request₀ at₀ n₀ request at n = length text - at
 
+-- Earlier places, as later ones see them.
+abbrev loop-from-pair2 : tie.After-pair2 Inv-loop μ-loop → tie.At-loop Inv-loop μ-loop
+loop-from-pair2 c = c .before .before .before .before .before
+
 loop-holds : tie.Need-loop-holds Inv-loop μ-loop
 loop-holds c = (search needs, search needs, refl, going-start _ _ _ _ _ (c .scan .ensures .2))
 
@@ -26,20 +30,22 @@ returns c =
 
 returns-2 : tie.Need-returns-2 Inv-loop μ-loop
 returns-2 c =
-    let loop = c .before .before .before .before .before .before .before .loop in
-    going-fault _ _ _ _ _ _ _ (loop .inv .3) _ (search needs) (search needs) (c .before .before .pair2 .ensures) _
-    (search needs) (c .fault-of2 .ensures) (search needs) (loop .inv .2)
+    let back = c .before .before in let pair2 = back .pair2 in
+    let loop = loop-from-pair2 back .loop in
+    going-fault _ _ _ _ _ _ _ (loop .inv .3) _ (search needs) (search needs) (pair2 .ensures) _ (search needs)
+    (c .fault-of2 .ensures) (search needs) (loop .inv .2)
 
 returns-3 : tie.Need-returns-3 Inv-loop μ-loop
 returns-3 c =
-    let loop = c .before .before .before .before .before .before .before .loop in
-    going-full _ _ _ _ _ _ _ (loop .inv .3) _ (search needs) (search needs) (c .before .before .pair2 .ensures)
-    (search needs) (search needs) (search needs) (loop .inv .2)
+    let back = c .before .before in let pair2 = back .pair2 in
+    let loop = loop-from-pair2 back .loop in
+    going-full _ _ _ _ _ _ _ (loop .inv .3) _ (search needs) (search needs) (pair2 .ensures) (search needs)
+    (search needs) (search needs) (loop .inv .2)
 
 loop-again : tie.Need-loop-again Inv-loop μ-loop
 loop-again c =
-    let pair2 = c .before .before .before .pair2 in
-    let loop = c .before .before .before .before .before .before .before .before .loop in (
+    let back = c .before .before .before in let pair2 = back .pair2 in
+    let loop = loop-from-pair2 back .loop in (
       search needs,
       search needs,
       simp length-set (loop .inv .2),

@@ -13,20 +13,21 @@ returns c =
 
 returns-2 : tie.Need-returns-2
 returns-2 c =
-    let if1 = c .before .before .before .if1 in
-    let is-number = c .before .before .before .before .is-number in
-    let scan = c .before .before .before .before .before .before .scan in
+    let back = c .before .before .before in let if1 = back .if1 in
+    let is-number = back .before .is-number in
+    let scan = back .before .before .before .scan in
     reads-none _ (over-limit _ _ _ _ (scan .ensures .2) _ (sym (is-number .ensures) ∙ not-off _ (if1 .left))
     (c .before .decimal .ensures) (search needs))
 
 returns-3 : tie.Need-returns-3
 returns-3 c =
-    let decimal = c .before .before .before .before .before .decimal in
-    let if1 = c .before .before .before .before .before .before .before .if1 in
-    let is-number = c .before .before .before .before .before .before .before .before .is-number in
-    let scan = c .before .before .before .before .before .before .before .before .before .before .scan in
+    let back = c .before .before in let bytes = back .bytes in
+    let back = back .before .before .before in let decimal = back .decimal in
+    let back = back .before .before in let if1 = back .if1 in
+    let is-number = back .before .is-number in
+    let scan = back .before .before .before .scan in
     reads-as (has-limit _ _ _ _ (scan .ensures .2) _ (sym (is-number .ensures) ∙ not-off _ (if1 .left))
-    (decimal .ensures) (search needs)) (c .before .before .bytes .ensures)
+    (decimal .ensures) (search needs)) (bytes .ensures)
 
 pub limited-spec : {M : Type 1} → statement M
 limited-spec =

@@ -15,17 +15,19 @@ returns-2 c =
 
 returns-3 : tie.Need-returns-3
 returns-3 c =
-    let is-blank = c .before .before .before .is-blank in
-    let digit = c .before .before .before .before .before .digit in
+    let back = c .before .before in let if2 = back .if2 in
+    let is-blank = back .before .is-blank in
+    let digit = back .before .before .before .digit in
     bad-low _ _ _ (digit .ensures .1) _ (c .before .digit2 .ensures .1) (search needs)
-    (sym (is-blank .ensures) ∙ c .before .before .if2 .left) (search needs)
+    (sym (is-blank .ensures) ∙ if2 .left) (search needs)
 
 returns-4 : tie.Need-returns-4
 returns-4 c =
-    let is-blank = c .before .before .before .is-blank in
-    let digit = c .before .before .before .before .before .digit in
+    let back = c .before .before in let if2 = back .if2 in
+    let is-blank = back .before .is-blank in
+    let digit = back .before .before .before .digit in
     whole-byte _ _ _ (digit .ensures .1) _ (c .before .digit2 .ensures .1) (search needs)
-    (sym (is-blank .ensures) ∙ c .before .before .if2 .left) (search needs)
+    (sym (is-blank .ensures) ∙ if2 .left) (search needs)
 
 pub pair-spec : {M : Type 1} → statement M
 pair-spec =

@@ -11,8 +11,9 @@ slice-aggregate-asked c = sym (length-take-le _ _ (c .before .find .ensures .1))
 
 returns : tie.Need-returns
 returns c =
-    let find = c .before .before .before .before .before .find in
-    reads-as (without-comment _ _ _ (find .ensures .2)) (c .before .before .asked .ensures)
+    let back = c .before .before in let asked = back .asked in
+    let find = back .before .before .before .find in
+    reads-as (without-comment _ _ _ (find .ensures .2)) (asked .ensures)
 
 pub parse-spec : {M : Type 1} → statement M
 parse-spec =
