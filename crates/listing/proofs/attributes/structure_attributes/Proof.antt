@@ -9,19 +9,14 @@ use Rattle.listing.proofs.attributes.structure_attributes.Tie as tie
 abbrev start-from-find-template : tie.After-find-template → tie.Start
 start-from-find-template c = c .before .before .before
 
-mul-structure-of : tie.Need-mul-structure-of
-mul-structure-of c =
-    let h = (let back = c .before .before .before in
-    let find-template = back .find-template in
-    let args = start-from-find-template back .args in
-    template-inside (args .structures .now) (args .id) _ _ (c .before .i .given .1) (find-template .ensures)) in
-    search needs
-
 shared-slice-element-structure-of : tie.Need-shared-slice-element-structure-of
 shared-slice-element-structure-of c =
     let back = c .before .before .before in let find-template = back .find-template in
     let args = start-from-find-template back .args in
     template-inside (args .structures .now) (args .id) _ _ (c .before .i .given .1) (find-template .ensures)
+
+mul-structure-of : tie.Need-mul-structure-of
+mul-structure-of c = let h = shared-slice-element-structure-of c in search needs
 
 enum-told : tie.Need-enum-told
 enum-told c = search needs

@@ -13,14 +13,7 @@ start-from-find-other-id c = c .before .before .before .before
 abbrev find-other-id-from-i : tie.After-i → tie.After-find-other-id
 find-other-id-from-i c = c .before .before
 
-mul-part-of : tie.Need-mul-part-of
-mul-part-of c =
-    let h = (let back = find-other-id-from-i (c .before) in
-    let find-other-id = back .find-other-id in
-    let args = start-from-find-other-id back .args in
-    id-inside (args .others .now) 0 (args .id) _ _ (c .before .i .given .1) (find-other-id .ensures)) in
-    search needs
-
+-- The row that was found is there; the later answers take it from here.
 index-1-part-of : tie.Need-index-1-part-of
 index-1-part-of c =
     let back = find-other-id-from-i (c .before) in
@@ -28,21 +21,14 @@ index-1-part-of c =
     let args = start-from-find-other-id back .args in
     id-inside (args .others .now) 0 (args .id) _ _ (c .before .i .given .1) (find-other-id .ensures)
 
+mul-part-of : tie.Need-mul-part-of
+mul-part-of c = let h = index-1-part-of c in search needs
+
 mul-part-of-2 : tie.Need-mul-part-of-2
-mul-part-of-2 c =
-    let h = (let back = c .before .before in
-    let i = back .i in
-    let back = find-other-id-from-i back in let find-other-id = back .find-other-id in
-    let args = start-from-find-other-id back .args in
-    id-inside (args .others .now) 0 (args .id) _ _ (i .given .1) (find-other-id .ensures)) in
-    search needs
+mul-part-of-2 c = let h = index-1-part-of (c .before) in search needs
 
 index-1-part-of-2 : tie.Need-index-1-part-of-2
-index-1-part-of-2 c =
-    let back = c .before .before in let i = back .i in
-    let back = find-other-id-from-i back in let find-other-id = back .find-other-id in
-    let args = start-from-find-other-id back .args in
-    id-inside (args .others .now) 0 (args .id) _ _ (i .given .1) (find-other-id .ensures)
+index-1-part-of-2 c = index-1-part-of (c .before)
 
 enum-told : tie.Need-enum-told
 enum-told c = search needs

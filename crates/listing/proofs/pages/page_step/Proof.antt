@@ -30,16 +30,7 @@ next-near-requires c κs =
     ids-apart (start .args .structures .now) (start .args .tags .now) (start .args .others .now)
     (start .args .names .now) (start .args .tag-names .now) (start .pre .0)
 
-mul-part-of : tie.Need-mul-part-of
-mul-part-of c =
-    let h = (let back = next-near-from-i (c .before) in
-    let next-near = back .next-near in
-    let start = start-from-next-near back in
-    tag-there (start .args .structures .now) (start .args .tags .now) (start .args .others .now)
-    (start .args .names .now) (start .args .tag-names .now) (start .args .scope) (start .args .bound) _
-    (next-near .ensures) (start .pre .0) _ _ (c .before .i .given .1)) in
-    search needs
-
+-- The row that was found is there; the later answers take it from here.
 index-1-part-of : tie.Need-index-1-part-of
 index-1-part-of c =
     let back = next-near-from-i (c .before) in
@@ -49,45 +40,20 @@ index-1-part-of c =
     (start .args .names .now) (start .args .tag-names .now) (start .args .scope) (start .args .bound) _
     (next-near .ensures) (start .pre .0) _ _ (c .before .i .given .1)
 
+mul-part-of : tie.Need-mul-part-of
+mul-part-of c = let h = index-1-part-of c in search needs
+
 mul-part-of-2 : tie.Need-mul-part-of-2
-mul-part-of-2 c =
-    let h = (let back = c .before .before in
-    let i = back .i in
-    let back = next-near-from-i back in let next-near = back .next-near in
-    let start = start-from-next-near back in
-    tag-there (start .args .structures .now) (start .args .tags .now) (start .args .others .now)
-    (start .args .names .now) (start .args .tag-names .now) (start .args .scope) (start .args .bound) _
-    (next-near .ensures) (start .pre .0) _ _ (i .given .1)) in
-    search needs
+mul-part-of-2 c = let h = index-1-part-of (c .before) in search needs
 
 index-1-part-of-2 : tie.Need-index-1-part-of-2
-index-1-part-of-2 c =
-    let back = c .before .before in let i = back .i in
-    let back = next-near-from-i back in let next-near = back .next-near in
-    let start = start-from-next-near back in
-    tag-there (start .args .structures .now) (start .args .tags .now) (start .args .others .now)
-    (start .args .names .now) (start .args .tag-names .now) (start .args .scope) (start .args .bound) _
-    (next-near .ensures) (start .pre .0) _ _ (i .given .1)
+index-1-part-of-2 c = index-1-part-of (c .before)
 
 mul-tag-symbol : tie.Need-mul-tag-symbol
-mul-tag-symbol c =
-    let h = (let back = i-from-part-of c in
-    let i = back .i in
-    let back = next-near-from-i back in let next-near = back .next-near in
-    let start = start-from-next-near back in
-    tag-there (start .args .structures .now) (start .args .tags .now) (start .args .others .now)
-    (start .args .names .now) (start .args .tag-names .now) (start .args .scope) (start .args .bound) _
-    (next-near .ensures) (start .pre .0) _ _ (i .given .1)) in
-    search needs
+mul-tag-symbol c = let h = index-1-part-of (c .before .before .before) in search needs
 
 shared-slice-element-tag-symbol : tie.Need-shared-slice-element-tag-symbol
-shared-slice-element-tag-symbol c =
-    let back = i-from-part-of c in let i = back .i in
-    let back = next-near-from-i back in let next-near = back .next-near in
-    let start = start-from-next-near back in
-    tag-there (start .args .structures .now) (start .args .tags .now) (start .args .others .now)
-    (start .args .names .now) (start .args .tag-names .now) (start .args .scope) (start .args .bound) _
-    (next-near .ensures) (start .pre .0) _ _ (i .given .1)
+shared-slice-element-tag-symbol c = index-1-part-of (c .before .before .before)
 
 tag-symbol-requires : tie.Need-tag-symbol-requires
 tag-symbol-requires c κs =
@@ -100,15 +66,7 @@ tag-symbol-requires c κs =
     (next-near .ensures) (start .pre .0) _ _ (i .given .1)
 
 add-entry-step : tie.Need-add-entry-step
-add-entry-step c =
-    let h = (let back = i-from-part-of (c .before .before) in
-    let i = back .i in
-    let back = next-near-from-i back in let next-near = back .next-near in
-    let start = start-from-next-near back in
-    tag-there (start .args .structures .now) (start .args .tags .now) (start .args .others .now)
-    (start .args .names .now) (start .args .tag-names .now) (start .args .scope) (start .args .bound) _
-    (next-near .ensures) (start .pre .0) _ _ (i .given .1)) in
-    search needs
+add-entry-step c = let h = shared-slice-element-tag-symbol (c .before .before) in search needs
 
 entry-step-requires : tie.Need-entry-step-requires
 entry-step-requires c κs = (
@@ -125,16 +83,7 @@ entry-step-requires c κs = (
   search needs,
 )
 
-mul-part-of-3 : tie.Need-mul-part-of-3
-mul-part-of-3 c =
-    let h = (let back = next-near-from-i2 (c .before) in
-    let next-near = back .next-near in
-    let start = start-from-next-near back in
-    other-there (start .args .structures .now) (start .args .tags .now) (start .args .others .now)
-    (start .args .names .now) (start .args .tag-names .now) (start .args .scope) (start .args .bound) _
-    (next-near .ensures) (start .pre .0) _ _ (c .before .i2 .given .1)) in
-    search needs
-
+-- The other symbol's row is there, for the later answers too.
 index-1-part-of-3 : tie.Need-index-1-part-of-3
 index-1-part-of-3 c =
     let back = next-near-from-i2 (c .before) in
@@ -144,45 +93,20 @@ index-1-part-of-3 c =
     (start .args .names .now) (start .args .tag-names .now) (start .args .scope) (start .args .bound) _
     (next-near .ensures) (start .pre .0) _ _ (c .before .i2 .given .1)
 
+mul-part-of-3 : tie.Need-mul-part-of-3
+mul-part-of-3 c = let h = index-1-part-of-3 c in search needs
+
 mul-part-of-4 : tie.Need-mul-part-of-4
-mul-part-of-4 c =
-    let h = (let back = c .before .before in
-    let i2 = back .i2 in
-    let back = next-near-from-i2 back in let next-near = back .next-near in
-    let start = start-from-next-near back in
-    other-there (start .args .structures .now) (start .args .tags .now) (start .args .others .now)
-    (start .args .names .now) (start .args .tag-names .now) (start .args .scope) (start .args .bound) _
-    (next-near .ensures) (start .pre .0) _ _ (i2 .given .1)) in
-    search needs
+mul-part-of-4 c = let h = index-1-part-of-3 (c .before) in search needs
 
 index-1-part-of-4 : tie.Need-index-1-part-of-4
-index-1-part-of-4 c =
-    let back = c .before .before in let i2 = back .i2 in
-    let back = next-near-from-i2 back in let next-near = back .next-near in
-    let start = start-from-next-near back in
-    other-there (start .args .structures .now) (start .args .tags .now) (start .args .others .now)
-    (start .args .names .now) (start .args .tag-names .now) (start .args .scope) (start .args .bound) _
-    (next-near .ensures) (start .pre .0) _ _ (i2 .given .1)
+index-1-part-of-4 c = index-1-part-of-3 (c .before)
 
 mul-other-symbol : tie.Need-mul-other-symbol
-mul-other-symbol c =
-    let h = (let back = i2-from-part-of2 c in
-    let i2 = back .i2 in
-    let back = next-near-from-i2 back in let next-near = back .next-near in
-    let start = start-from-next-near back in
-    other-there (start .args .structures .now) (start .args .tags .now) (start .args .others .now)
-    (start .args .names .now) (start .args .tag-names .now) (start .args .scope) (start .args .bound) _
-    (next-near .ensures) (start .pre .0) _ _ (i2 .given .1)) in
-    search needs
+mul-other-symbol c = let h = index-1-part-of-3 (c .before .before .before) in search needs
 
 shared-slice-element-other-symbol : tie.Need-shared-slice-element-other-symbol
-shared-slice-element-other-symbol c =
-    let back = i2-from-part-of2 c in let i2 = back .i2 in
-    let back = next-near-from-i2 back in let next-near = back .next-near in
-    let start = start-from-next-near back in
-    other-there (start .args .structures .now) (start .args .tags .now) (start .args .others .now)
-    (start .args .names .now) (start .args .tag-names .now) (start .args .scope) (start .args .bound) _
-    (next-near .ensures) (start .pre .0) _ _ (i2 .given .1)
+shared-slice-element-other-symbol c = index-1-part-of-3 (c .before .before .before)
 
 entry-step-requires-2 : tie.Need-entry-step-requires-2
 entry-step-requires-2 c κs = (

@@ -11,14 +11,7 @@ start-from-find-template c = c .before .before .before .before .before
 abbrev find-template-from-i : tie.After-i → tie.After-find-template
 find-template-from-i c = c .before .before
 
-mul-template-reply : tie.Need-mul-template-reply
-mul-template-reply c =
-    let h = (let back = find-template-from-i (c .before) in
-    let find-template = back .find-template in
-    let args = start-from-find-template back .args in
-    template-inside (args .structures .now) (args .id) _ _ (c .before .i .given .1) (find-template .ensures)) in
-    search needs
-
+-- The row that was found is there; the later answers take it from here.
 index-1-template-reply : tie.Need-index-1-template-reply
 index-1-template-reply c =
     let back = find-template-from-i (c .before) in
@@ -26,29 +19,19 @@ index-1-template-reply c =
     let args = start-from-find-template back .args in
     template-inside (args .structures .now) (args .id) _ _ (c .before .i .given .1) (find-template .ensures)
 
+mul-template-reply : tie.Need-mul-template-reply
+mul-template-reply c = let h = index-1-template-reply c in search needs
+
 mul-template-reply-2 : tie.Need-mul-template-reply-2
-mul-template-reply-2 c =
-    let h = (let back = c .before .before in
-    let i = back .i in
-    let back = find-template-from-i back in let find-template = back .find-template in
-    let args = start-from-find-template back .args in
-    template-inside (args .structures .now) (args .id) _ _ (i .given .1) (find-template .ensures)) in
-    search needs
+mul-template-reply-2 c = let h = index-1-template-reply (c .before) in search needs
 
 index-1-template-reply-2 : tie.Need-index-1-template-reply-2
-index-1-template-reply-2 c =
-    let back = c .before .before in let i = back .i in
-    let back = find-template-from-i back in let find-template = back .find-template in
-    let args = start-from-find-template back .args in
-    template-inside (args .structures .now) (args .id) _ _ (i .given .1) (find-template .ensures)
+index-1-template-reply-2 c = index-1-template-reply (c .before)
 
 template-reply-requires : tie.Need-template-reply-requires
 template-reply-requires c κs = (
-  let back = c .before .before .before .before in let i = back .i in
-      let back = find-template-from-i back in let find-template = back .find-template in
-      let start = start-from-find-template back in
-      start .pre .0 _
-      (template-inside (start .args .structures .now) (start .args .id) _ _ (i .given .1) (find-template .ensures)),
+  let back = c .before .before .before in
+      start-from-find-template (find-template-from-i (back .before)) .pre .0 _ (index-1-template-reply back),
   search needs,
 )
 
