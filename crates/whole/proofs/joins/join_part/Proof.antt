@@ -52,11 +52,7 @@ copy-into-requires c κs =
     part-fits (start .pre) (start .fits .elements .fits) (send-read .ensures)
 
 sub-end : tie.Need-sub-end
-sub-end c =
-    let back = send-read-from-copy-into (copy-into-from-slice-known6 c) in
-    let send-read = back .send-read in
-    let start = start-from-send-read back in
-    part-inside (start .pre) (start .fits .elements .fits) (send-read .ensures) .0
+sub-end c = sub-copy-into (copy-into-from-slice-known6 c .before .before .before)
 
 add-end : tie.Need-add-end
 add-end c =

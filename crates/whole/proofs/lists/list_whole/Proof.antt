@@ -64,20 +64,8 @@ list-askable-requires c κs =
 
 returns-5 : tie.Need-returns-5
 returns-5 c =
-    let back = c .before .before .before .before .before .before in let list-askable = back .list-askable in
-    let back = back .before .before .before .before in let if4 = back .if4 in
-    let valid = back .before .valid in
-    let back = back .before .before .before in let if3 = back .if3 in
-    let room-of = back .before .room-of in
-    let back = back .before .before in let if2 = back .if2 in
-    let if1 = back .before .if1 in
-    let is-askable = back .before .before .is-askable in (
-      list-entered _ _ _ _ (record {
-        askable = sym (is-askable .ensures) ∙ not-false _ (if1 .left);
-        limit-fits = if2 .left;
-        has-room = omega (arith, room-of .ensures, if3 .left);
-        tables = sym (valid .ensures) ∙ not-false _ (if4 .left);
-      }) (list-askable .ensures .0),
+    let back = c .before .before .before .before .before .before in let list-askable = back .list-askable in (
+      list-entered _ _ _ _ (list-askable-requires (back .before) (list-askable .lifetimes)) (list-askable .ensures .0),
       list-askable .ensures .1,
     )
 

@@ -47,11 +47,7 @@ copy-into-requires c κs =
     turn-fits _ _ (start .pre) (start .fits .start .fits) (send-list .ensures)
 
 sub-end : tie.Need-sub-end
-sub-end c =
-    let back = send-list-from-copy-into (copy-into-from-slice-known6 c) in
-    let send-list = back .send-list in
-    let start = start-from-send-list back in
-    turn-inside _ _ (start .pre) (start .fits .start .fits) (send-list .ensures) .0
+sub-end c = sub-copy-into (copy-into-from-slice-known6 c .before .before .before)
 
 add-end : tie.Need-add-end
 add-end c =
