@@ -14,10 +14,10 @@ returns c =
 returns-2 : tie.Need-returns-2
 unfolding apart
 returns-2 c =
-    let long = c .before .before .before .before .long in
-    let tag-end = c .before .before .before .before .before .before .tag-end in
-    rw (← tag-end .ensures, ← c .before .before .tag-end2 .ensures, ← long .ensures .0, ← c .long2 .ensures .0)
-    (search (eithers, tests))
+    let back = c .before .before in let tag-end2 = back .tag-end2 in
+    let back = back .before .before in let long = back .long in
+    let tag-end = back .before .before .tag-end in
+    rw (← tag-end .ensures, ← tag-end2 .ensures, ← long .ensures .0, ← c .long2 .ensures .0) (search (eithers, tests))
 
 pub bytes-apart-spec : {M : Type 1} → statement M
 bytes-apart-spec =

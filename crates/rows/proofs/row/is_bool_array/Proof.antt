@@ -17,12 +17,13 @@ returns-3 c = search chain
 
 returns-4 : tie.Need-returns-4
 returns-4 c =
-    let if2 = c .before .before .before .if2 in
-    let if1 = c .before .before .before .before .if1 in
+    let back = c .before .before in let if3 = back .if3 in
+    let if2 = back .before .if2 in
+    let if1 = back .before .before .if1 in
     rw (
       eq-eqb _ _ (if1 .left),
       ne-eqb _ _ (if2 .left),
-      eq-eqb _ _ (c .before .before .if3 .left),
+      eq-eqb _ _ (if3 .left),
       c .before .long .ensures .0,
       c .long2 .ensures .0,
     ) refl

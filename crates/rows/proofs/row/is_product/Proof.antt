@@ -19,43 +19,44 @@ mul-two c = omega (arith, product-fits _ _ (c .before .long .ensures .1) (c .lon
 
 returns-3 : tie.Need-returns-3
 returns-3 c =
-    let long = c .before .before .before .long in
-    let if2 = c .before .before .before .before .if2 in
-    let if1 = c .before .before .before .before .before .if1 in
+    let back = c .before .before in let long2 = back .long2 in
+    let long = back .before .long in
+    let back = back .before .before in let if2 = back .if2 in
+    let if1 = back .before .if1 in
     rw (
       ne-eqb _ _ (if1 .left),
       ne-eqb _ _ (if2 .left),
       eq-eqb _ _ (c .before .if3 .taken),
       long .ensures .0,
-      c .before .before .long2 .ensures .0,
+      long2 .ensures .0,
       c .long3 .ensures .0,
     ) refl
 
 returns-4 : tie.Need-returns-4
 returns-4 c =
     let if3 = c .before .if3 in
-    let long2 = c .before .before .long2 in
-    let long = c .before .before .before .long in
-    let if2 = c .before .before .before .before .if2 in
-    let if1 = c .before .before .before .before .before .if1 in
+    let back = c .before .before in let long2 = back .long2 in
+    let long = back .before .long in
+    let back = back .before .before in let if2 = back .if2 in
+    let if1 = back .before .if1 in
     let h : 4294967295 < long .result * long2 .result = omega arith in
     rw (ne-eqb _ _ (if1 .left), ne-eqb _ _ (if2 .left), ne-eqb _ _ (if3 .left), ← long .ensures .0, ← long2 .ensures .0)
     (sym (too-large _ _ _ (omega arith) h (if3 .left)))
 
 mul-result : tie.Need-mul-result
 mul-result c =
-    let long2 = c .before .before .before .before .long2 in
-    let long = c .before .before .before .before .before .long in
+    let back = c .before .before .before .before in let long2 = back .long2 in
+    let long = back .before .long in
     let h : long .result * long2 .result < 4294967296 = omega arith in
     omega (arith, product-fits _ _ h (c .long5 .ensures .1))
 
 returns-5 : tie.Need-returns-5
 returns-5 c =
-    let if3 = c .before .before .before .if3 in
-    let long2 = c .before .before .before .before .long2 in
-    let long = c .before .before .before .before .before .long in
-    let if2 = c .before .before .before .before .before .before .if2 in
-    let if1 = c .before .before .before .before .before .before .before .if1 in
+    let back = c .before .before .before in let if3 = back .if3 in
+    let long2 = back .before .long2 in
+    let back = back .before .before in let long = back .long in
+    let if2 = back .before .if2 in
+    let if1 = back .before .before .if1 in
     rw (
       ne-eqb _ _ (if1 .left),
       ne-eqb _ _ (if2 .left),

@@ -8,13 +8,10 @@ use Rattle.rows.proofs.row.member_inside.Tie as tie
 returns : tie.Need-returns
 unfolding endsWithin
 returns c =
-    let element-size = c .before .before .before .before .before .element-size in
-    rw (
-      ← element-size .ensures,
-      ← c .before .before .at-least-one .ensures,
-      ← c .before .end-of .ensures,
-      ← c .long .ensures .0,
-    ) (search refusals)
+    let back = c .before .before in let at-least-one = back .at-least-one in
+    let element-size = back .before .before .before .element-size in
+    rw (← element-size .ensures, ← at-least-one .ensures, ← c .before .end-of .ensures, ← c .long .ensures .0)
+    (search refusals)
 
 pub member-inside-spec : {M : Type 1} → statement M
 member-inside-spec =

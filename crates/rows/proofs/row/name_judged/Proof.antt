@@ -13,8 +13,8 @@ returns c = rw (← c .before .before .wide .ensures, ← c .before .wide2 .ensu
 returns-2 : tie.Need-returns-2
 unfolding nameJudged
 returns-2 c =
-    let wide2 = c .before .before .before .wide2 in
-    let wide = c .before .before .before .before .wide in
+    let back = c .before .before .before in let wide2 = back .wide2 in
+    let wide = back .before .wide in
     rw (← wide .ensures, ← wide2 .ensures)
     (let e = simp add-sub-cancel-left at (c .is-name .ensures) in search refusals)
 

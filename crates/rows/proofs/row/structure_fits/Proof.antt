@@ -14,8 +14,8 @@ returns-2 c = rw structure-fits (search refusals)
 
 returns-3 : tie.Need-returns-3
 returns-3 c =
-    let wide2 = c .before .before .before .wide2 in
-    let wide = c .before .before .before .before .before .wide in
+    let back = c .before .before .before in let wide2 = back .wide2 in
+    let wide = back .before .before .wide in
     let e = rw (wide .ensures, wide2 .ensures) at (simp add-sub-cancel-left at (c .members-fit .ensures)) in
     rw structure-fits (search refusals)
 
