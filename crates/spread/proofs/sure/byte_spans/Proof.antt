@@ -26,8 +26,8 @@ loop-holds c = (search needs, search needs, search needs, search needs, λ k h. 
 
 loop-again : tie.Need-loop-again Inv-loop μ-loop
 loop-again c =
-    let loop = c .before .before .before .loop in
-    let args = c .before .before .before .before .args in (
+    let back = c .before .before .before in let loop = back .loop in
+    let args = back .before .args in (
       search needs,
       search needs,
       simp length-set (search needs),

@@ -7,8 +7,8 @@ use Rattle.spread.proofs.sure.bytes_apart.Tie as tie
 
 returns : tie.Need-returns
 returns c =
-    let byte-spans = c .before .before .before .byte-spans in
-    let args = c .before .before .before .before .before .before .args in
+    let back = c .before .before .before in let byte-spans = back .byte-spans in
+    let args = back .before .before .before .args in
     λ e. bytes-far (now (args .structures)) _ (byte-spans .last .1 .1 .0) (byte-spans .last .1 .1 .1 .0)
     (byte-spans .ensures .0) (byte-spans .ensures .1) (c .spread .ensures e)
 

@@ -23,8 +23,8 @@ loop-holds c = (search needs, search needs, search needs, search needs, search n
 
 loop-again : tie.Need-loop-again Inv-loop μ-loop
 loop-again c =
-    let loop = c .before .before .loop in
-    let args = c .before .before .before .args in (
+    let back = c .before .before in let loop = back .loop in
+    let args = back .before .args in (
       search needs,
       search needs,
       search needs,

@@ -22,8 +22,9 @@ loop-again : tie.Need-loop-again Inv-loop μ-loop
 loop-again c = (
   search needs,
   search needs,
-  let loop = c .before .before .before .loop in
-      run-next mixed _ 0 _ _ _ _ _ (loop .inv .2) (c .before .before .loop-test .taken) (c .mixed .ensures .0) refl,
+  let back = c .before .before in let loop-test = back .loop-test in
+      let loop = back .before .loop in
+      run-next mixed _ 0 _ _ _ _ _ (loop .inv .2) (loop-test .taken) (c .mixed .ensures .0) refl,
 )
 
 returns : tie.Need-returns Inv-loop μ-loop

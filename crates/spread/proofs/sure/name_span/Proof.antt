@@ -10,8 +10,8 @@ use Rattle.spread.proofs.sure.name_span.Tie as tie
 
 returns : tie.Need-returns
 returns c =
-    let if1 = c .before .before .if1 in
-    let args = c .before .before .before .before .before .args in (
+    let back = c .before .before in let if1 = back .if1 in
+    let args = back .before .before .before .args in (
       as-tag (tagFirst (now (args .tag-names))) (otherFirst (now (args .names))) _ _ _ _ (if1 .taken)
           (ap (λ z. 2 * z) (c .tag-key .ensures .0)),
       as-tag (tagLast (now (args .tag-names))) (otherFirst (now (args .names))) _ _ _ _ (if1 .taken)
@@ -20,8 +20,8 @@ returns c =
 
 returns-2 : tie.Need-returns-2
 returns-2 c =
-    let if1 = c .before .before .if1 in
-    let args = c .before .before .before .before .before .args in (
+    let back = c .before .before in let if1 = back .if1 in
+    let args = back .before .before .before .args in (
       as-other (tagFirst (now (args .tag-names))) (otherFirst (now (args .names))) _ _ _ _ _ (if1 .left) refl
           (ap (λ z. 2 * z + 1) (c .other-key .ensures .0)),
       as-other (tagLast (now (args .tag-names))) (otherFirst (now (args .names))) _ _ _ _ _ (if1 .left) refl

@@ -7,8 +7,8 @@ use Rattle.spread.proofs.sure.names_differ.Tie as tie
 
 returns : tie.Need-returns
 returns c =
-    let name-spans = c .before .before .before .name-spans in
-    let args = c .before .before .before .before .before .before .before .before .args in
+    let back = c .before .before .before in let name-spans = back .name-spans in
+    let args = back .before .before .before .before .before .args in
     λ e. names-far _ _ (name-spans .last .1 .1 .1 .1 .0) (name-spans .last .1 .1 .1 .1 .1 .0) (now (args .tag-names))
     (now (args .names)) (name-spans .ensures .0) (name-spans .ensures .1) (c .spread .ensures e)
 

@@ -22,10 +22,11 @@ returns-5 c = λ e. absurd (omega arith)
 
 returns-6 : tie.Need-returns-6
 returns-6 c =
-    let if4 = c .before .before .before .if4 in
-    let bytes-apart = c .before .before .before .before .bytes-apart in
-    λ e. all-sure _ _ _ _ _ (bytes-apart .ensures (if4 .left))
-    (c .before .before .ids-differ .ensures (c .before .if5 .left)) (c .names-differ .ensures e)
+    let back = c .before .before in let ids-differ = back .ids-differ in
+    let if4 = back .before .if4 in
+    let bytes-apart = back .before .before .bytes-apart in
+    λ e. all-sure _ _ _ _ _ (bytes-apart .ensures (if4 .left)) (ids-differ .ensures (c .before .if5 .left))
+    (c .names-differ .ensures e)
 
 pub sure-spec : {M : Type 1} → statement M
 sure-spec =
