@@ -16,15 +16,17 @@ returns-2 c = split-cut _ (omega (arith, c .before .twice .ensures))
 
 returns-3 : tie.Need-returns-3
 returns-3 c =
-    let twice = c .before .before .before .before .before .twice in
+    let back = c .before .before in let check-path = back .check-path in
+    let twice = back .before .before .before .twice in
     ap (splitBy _) (sym (c .enum-told .given .1)) ∙ split-checked _ _ _ (twice .ensures) (omega arith)
-    (simp add-sub-cancel-left at (c .before .before .check-path .ensures))
+    (simp add-sub-cancel-left at (check-path .ensures))
 
 returns-4 : tie.Need-returns-4
 returns-4 c =
-    let twice = c .before .before .before .before .before .twice in
+    let back = c .before .before in let check-path = back .check-path in
+    let twice = back .before .before .before .twice in
     ap (splitBy _) (sym (c .enum-told2 .given .1)) ∙ split-checked _ _ _ (twice .ensures) (omega arith)
-    (simp add-sub-cancel-left at (c .before .before .check-path .ensures))
+    (simp add-sub-cancel-left at (check-path .ensures))
 
 pub split-request-spec : {M : Type 1} → statement M
 split-request-spec =

@@ -8,14 +8,15 @@ use Rattle.path.proofs.reader.nth_segment.Tie as tie
 
 returns : tie.Need-returns
 returns c =
-    let n = c .before .before .before .n in
-    let count-segments = c .before .before .before .before .before .count-segments in
+    let back = c .before .before .before in let n = back .n in
+    let count-segments = back .before .before .count-segments in
     nth-reached _ _ _ _ (sym (n .given .1) ∙ count-segments .ensures) (c .before .if1 .taken) (c .reached .ensures)
 
 returns-2 : tie.Need-returns-2
 returns-2 c =
-    let count-segments = c .before .before .before .before .count-segments in
-    nth-behind _ _ _ (sym (c .before .before .n .given .1) ∙ count-segments .ensures) (c .if1 .left)
+    let back = c .before .before in let n = back .n in
+    let count-segments = back .before .before .count-segments in
+    nth-behind _ _ _ (sym (n .given .1) ∙ count-segments .ensures) (c .if1 .left)
 
 returns-3 : tie.Need-returns-3
 returns-3 c = nth-bad _ _ (sym (c .enum-told .given .1) ∙ c .before .before .count-segments .ensures)
