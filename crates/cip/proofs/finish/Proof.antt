@@ -8,11 +8,10 @@ use Rattle.cip.proofs.finish.Tie as tie
 
 returns : tie.Need-returns
 returns c =
-    let room-of = c .before .before .before .room-of in
-    let args = c .before .before .before .before .before .before .args in (
-      refl,
-      c .before .before .zero-from .ensures ∙ ap (λ (m : ℕ). zeroed (args .used) m (args .buf .now)) (room-of .ensures),
-    )
+    let back = c .before .before in let zero-from = back .zero-from in
+    let room-of = back .before .room-of in
+    let args = back .before .before .before .before .args in
+    (refl, zero-from .ensures ∙ ap (λ (m : ℕ). zeroed (args .used) m (args .buf .now)) (room-of .ensures))
 
 pub finish-spec : {M : Type 1} → statement M
 finish-spec = tie.close (tie.spec (λ c κs. search needs) (λ c κs. search needs) (λ c. search needs) returns)

@@ -8,8 +8,9 @@ use Rattle.cip.proofs.put_u16.Tie as tie
 
 returns : tie.Need-returns
 returns c =
-    let put-u8 = c .before .before .before .before .before .before .put-u8 in
-    put-then _ _ _ _ _ _ _ (put-u8 .ensures) (c .before .before .put-u82 .ensures) refl (omega arith)
+    let back = c .before .before in let put-u82 = back .put-u82 in
+    let put-u8 = back .before .before .before .before .put-u8 in
+    put-then _ _ _ _ _ _ _ (put-u8 .ensures) (put-u82 .ensures) refl (omega arith)
 
 pub put-u16-spec : {M : Type 1} → statement M
 put-u16-spec =

@@ -6,15 +6,17 @@ use Rattle.cip.proofs.replies.refuse.Tie as tie
 
 returns : tie.Need-returns
 returns c =
-    let back = c .before .before .before .before in let if1 = back .if1 in
+    let back = c .before .before in let fail = back .fail in
+    let back = back .before .before in let if1 = back .if1 in
     let pre = back .before .before .pre in
-    refused-large _ _ _ _ _ _ (pre .1) (if1 .taken) (c .before .before .fail .ensures)
+    refused-large _ _ _ _ _ _ (pre .1) (if1 .taken) (fail .ensures)
 
 returns-2 : tie.Need-returns-2
 returns-2 c =
-    let back = c .before .before .before .before in let if1 = back .if1 in
+    let back = c .before .before in let fail2 = back .fail2 in
+    let back = back .before .before in let if1 = back .if1 in
     let pre = back .before .before .pre in
-    refused-well _ _ _ _ _ _ (pre .1) (if1 .left) (c .before .before .fail2 .ensures)
+    refused-well _ _ _ _ _ _ (pre .1) (if1 .left) (fail2 .ensures)
 
 pub refuse-spec : {M : Type 1} → statement M
 refuse-spec =
