@@ -31,7 +31,7 @@ use Rattle.model.specs.declared.Target.{Target}
 use Rattle.model.proofs.Laws.{indexed-lengths}
 use Rattle.resolve.specs.declared.places.Place.{Place}
 use Rattle.resolve.specs.declared.places.Moved.{Moved}
-use Rattle.resolve.specs.declared.places.Moved.the-variants as moved
+use Rattle.resolve.specs.declared.places.Turn.the-variants as turn
 use Rattle.resolve.specs.declared.start.Start.{Start}
 use Rattle.resolve.specs.declared.start.Start.the-variants as start
 use Rattle.resolve.specs.declared.Resolved.{Resolved}
@@ -127,17 +127,20 @@ module _ (structures members programs tags : List Row) (names tagNames : List �
           ∙ walk-bare structures members programs tags others names tagNames templates f (moves (left path next)) (wholeTag t i)
           ∙ ap (walk (onWalk structures members names) f (moves (left path next))) (sym whole) ∙ sym walks
 
-      pub resolve-turned : (s : Status) → m ≡ moved.Turned s → Result (Turned s)
-      resolve-turned s k = of-left (Turned s) (λ others templates. resolve-is others templates ∙ ap movedOf k)
+      pub resolve-moved : (x : Resolved) → Answers structures (movedOf m) x → Result x
+      resolve-moved x a = of-left x (λ others templates. rw (resolve-is others templates) a)
 
-      pub resolve-found : (g : Place) (target : Target) → m ≡ moved.To g → Aims structures g target → Result (Found target)
-      resolve-found g target k a = of-left (Found target) (λ others templates. record {
-        lengths = openLengths g;
-        is = resolve-is others templates ∙ ap movedOf k ∙ ap found (sym (a .is));
-        size-is = a .size-is;
-      })
+pub ruleset resolves = (resolve-start, resolve-moved)
 
-pub ruleset resolves = (resolve-start, resolve-turned, resolve-found)
+-- the answer that a walk comes to
+module _ (structures : List Row) (m : Moved) where
+  pub answer-turned : (s : Status) → m .turn ≡ turn.Turned s → Answers structures (movedOf m) (Turned s)
+  answer-turned s e = rw e
+
+  pub answer-found : (target : Target) → m .turn ≡ turn.Made → Aims structures (m .place) target → Answers structures (movedOf m) (Found target)
+  answer-found target e a = record { lengths = openLengths (m .place .lengths); is = rw e (ap found (sym (a .is))); size-is = a .size-is }
+
+pub ruleset answers = (answer-turned, answer-found)
 
 -- ---- what a service may use
 

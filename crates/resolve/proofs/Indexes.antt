@@ -16,10 +16,10 @@ use Rattle.definition.specs.Reply.{pathError, pathUnknown}
 use Rattle.definition.specs.Tables.{Row}
 use Rattle.definition.specs.Types.{sizeIn}
 use Rattle.definition.specs.Valid.{product}
-use Rattle.definition.specs.Resolve.{found, turned, allBelow, rowMajor, elementsFrom, index}
+use Rattle.definition.specs.Resolve.{Resolved, found, turned, allBelow, rowMajor, elementsFrom, index}
 use Rattle.definition.proofs.Inside.{position-below}
 use Rattle.resolve.specs.declared.places.Place.{Place}
-use Rattle.resolve.specs.Places.{placeOf, openLengths, onWalk, onlyStructures}
+use Rattle.resolve.specs.Places.{length1, length2, length3, openLengths, placeOf, onWalk, onlyStructures}
 use Rattle.resolve.specs.Runs.{Values, lead, noValues, dimsOf, insideOf, positionOf, indexOf, Bounded}
 
 both-end : (b : Bool) → both b true ≡ b
@@ -59,139 +59,150 @@ row-three a b d n m k = let z : 0 * n + a ≡ a = omega arith in rw z
 
 -- ---- any indexes: es has as many as there are lengths
 
-module _ (g : Place) where
+module _ (ns : List ℕ) where
   abbrev Agree : List ℕ → Type 0
-  Agree es = (insideOf g (lead noValues es) ≡ allBelow es (openLengths g)) × (positionOf g (lead noValues es) ≡ rowMajor 0 es (openLengths g))
+  Agree es = (insideOf ns (lead noValues es) ≡ allBelow es (openLengths ns)) × (positionOf ns (lead noValues es) ≡ rowMajor 0 es (openLengths ns))
 
-  agree-one : eqb (g .n0) 0 ≡ false → eqb (g .n1) 0 ≡ true → (es : List ℕ) → length es ≡ 1 → Agree es
+  agree-one : eqb (length1 ns) 0 ≡ false → eqb (length2 ns) 0 ≡ true → (es : List ℕ) → length es ≡ 1 → Agree es
   unfolding lead
   agree-one t u [] h = absurd (omega arith)
-  agree-one t u (a ∷ []) h = rw (t, u) (sym (below-one a (g .n0)), sym (row-one a (g .n0)))
+  agree-one t u (a ∷ []) h = rw (t, u) (sym (below-one a (length1 ns)), sym (row-one a (length1 ns)))
   agree-one t u (a ∷ (b ∷ es)) h = absurd (omega arith)
 
-  agree-two : eqb (g .n0) 0 ≡ false → eqb (g .n1) 0 ≡ false → eqb (g .n2) 0 ≡ true → (es : List ℕ) → length es ≡ 2 → Agree es
+  agree-two : eqb (length1 ns) 0 ≡ false → eqb (length2 ns) 0 ≡ false → eqb (length3 ns) 0 ≡ true → (es : List ℕ) → length es ≡ 2 → Agree es
   unfolding lead
   agree-two t u w [] h = absurd (omega arith)
   agree-two t u w (a ∷ []) h = absurd (omega arith)
-  agree-two t u w (a ∷ (b ∷ [])) h = rw (t, u, w) (sym (below-two a b (g .n0) (g .n1)), sym (row-two a b (g .n0) (g .n1)))
+  agree-two t u w (a ∷ (b ∷ [])) h = rw (t, u, w) (sym (below-two a b (length1 ns) (length2 ns)), sym (row-two a b (length1 ns) (length2 ns)))
   agree-two t u w (a ∷ (b ∷ (d ∷ es))) h = absurd (omega arith)
 
-  agree-three : eqb (g .n0) 0 ≡ false → eqb (g .n1) 0 ≡ false → eqb (g .n2) 0 ≡ false → (es : List ℕ) → length es ≡ 3 → Agree es
+  agree-three : eqb (length1 ns) 0 ≡ false → eqb (length2 ns) 0 ≡ false → eqb (length3 ns) 0 ≡ false → (es : List ℕ) → length es ≡ 3 → Agree es
   unfolding lead
   agree-three t u w [] h = absurd (omega arith)
   agree-three t u w (a ∷ []) h = absurd (omega arith)
   agree-three t u w (a ∷ (b ∷ [])) h = absurd (omega arith)
   agree-three t u w (a ∷ (b ∷ (d ∷ []))) h =
-      rw (t, u, w) (sym (below-three a b d (g .n0) (g .n1) (g .n2)), sym (row-three a b d (g .n0) (g .n1) (g .n2)))
+      rw (t, u, w) (sym (below-three a b d (length1 ns) (length2 ns) (length3 ns)), sym (row-three a b d (length1 ns) (length2 ns) (length3 ns)))
   agree-three t u w (a ∷ (b ∷ (d ∷ (x ∷ es)))) h = absurd (omega arith)
 
-  agrees : eqb (g .n0) 0 ≡ false → (es : List ℕ) → length es ≡ dimsOf g → Agree es
+  agrees : eqb (length1 ns) 0 ≡ false → (es : List ℕ) → length es ≡ dimsOf ns → Agree es
   agrees t es h =
-      by-test (eqb (g .n1) 0) (λ u. agree-one t u es (rw (t, u) at h))
-      (λ u. by-test (eqb (g .n2) 0) (λ w. agree-two t u w es (rw (t, u, w) at h)) (λ w. agree-three t u w es (rw (t, u, w) at h)))
+      by-test (eqb (length2 ns) 0) (λ u. agree-one t u es (rw (t, u) at h))
+      (λ u. by-test (eqb (length3 ns) 0) (λ w. agree-two t u w es (rw (t, u, w) at h)) (λ w. agree-three t u w es (rw (t, u, w) at h)))
 
-  dims-are : length (openLengths g) ≡ dimsOf g
+  dims-are : length (openLengths ns) ≡ dimsOf ns
   dims-are =
-      by-test (eqb (g .n0) 0) (λ t. rw t)
-      (λ t. by-test (eqb (g .n1) 0) (λ u. rw (t, u)) (λ u. by-test (eqb (g .n2) 0) (λ w. rw (t, u, w)) (λ w. rw (t, u, w))))
+      by-test (eqb (length1 ns) 0) (λ t. rw t)
+      (λ t. by-test (eqb (length2 ns) 0) (λ u. rw (t, u)) (λ u. by-test (eqb (length3 ns) 0) (λ w. rw (t, u, w)) (λ w. rw (t, u, w))))
 
-  pub index-is : (structures members : List Row) (names es : List ℕ) → indexOf structures g (lead noValues es) ≡ index (onWalk structures members names) es (placeOf g)
-  unfolding indexOf index elementsFrom
-  index-is structures members names es =
-      by-test (eqb (g .n0) 0) (λ t. rw t)
-      (λ t.
-      let n : lead noValues es .count ≡ length es = counted noValues es ∙ zero-add (length es) in
-      by-test (eqb (length es) (dimsOf g))
-      (λ u. let a = agrees t es (eqb-true (length es) (dimsOf g) u) in rw (dims-are, n, u, a .0, a .1, t))
-      (λ u. rw (dims-are, n, u, t)))
-
-  -- ---- sums and products stay small
-
-  module _ (v : Values) (some-length : g .n0 ≢ 0) (b : Bool) (tested : b ≡ insideOf g v) (on : b ≡ true) where
-    below : insideOf g v ≡ true
+  module _ (v : Values) (some-length : length1 ns ≢ 0) (b : Bool) (tested : b ≡ insideOf ns v) (on : b ≡ true) where
+    below : insideOf ns v ≡ true
     below = sym tested ∙ on
 
-    position-inside : positionOf g v < product (openLengths g)
+    position-inside : positionOf ns v < product (openLengths ns)
     position-inside =
-        let t = ne-eqb (g .n0) 0 some-length in
-        by-test (eqb (g .n1) 0)
+        let t = ne-eqb (length1 ns) 0 some-length in
+        by-test (eqb (length2 ns) 0)
         (λ u. rw (t, u) (omega (
           arith,
-          row-one (v .third) (g .n0),
-          position-below 0 (v .third ∷ []) (g .n0 ∷ []) refl (below-one (v .third) (g .n0) ∙ (rw u at below)),
+          row-one (v .third) (length1 ns),
+          position-below 0 (v .third ∷ []) (length1 ns ∷ []) refl (below-one (v .third) (length1 ns) ∙ (rw u at below)),
         )))
-        (λ u. by-test (eqb (g .n2) 0)
+        (λ u. by-test (eqb (length3 ns) 0)
         (λ w. rw (t, u, w) (omega (
           arith,
-          row-two (v .second) (v .third) (g .n0) (g .n1),
-          position-below 0 (v .second ∷ v .third ∷ []) (g .n0 ∷ g .n1 ∷ []) refl (below-two (v .second) (v .third) (g .n0) (g .n1) ∙ (rw (u, w) at below)),
+          row-two (v .second) (v .third) (length1 ns) (length2 ns),
+          position-below 0 (v .second ∷ v .third ∷ []) (length1 ns ∷ length2 ns ∷ []) refl (below-two (v .second) (v .third) (length1 ns) (length2 ns) ∙ (rw (u, w) at below)),
         )))
         (λ w. rw (t, u, w) (omega (
           arith,
-          row-three (v .first) (v .second) (v .third) (g .n0) (g .n1) (g .n2),
-          position-below 0 (v .first ∷ v .second ∷ v .third ∷ []) (g .n0 ∷ g .n1 ∷ g .n2 ∷ []) refl
-              (below-three (v .first) (v .second) (v .third) (g .n0) (g .n1) (g .n2) ∙ (rw (u, w) at below)),
+          row-three (v .first) (v .second) (v .third) (length1 ns) (length2 ns) (length3 ns),
+          position-below 0 (v .first ∷ v .second ∷ v .third ∷ []) (length1 ns ∷ length2 ns ∷ length3 ns ∷ []) refl
+              (below-three (v .first) (v .second) (v .third) (length1 ns) (length2 ns) (length3 ns) ∙ (rw (u, w) at below)),
         ))))
 
-    module _ (structures : List Row) (bounded : Bounded structures g) where
-      pub position-small : positionOf g v ≤ 65536
-      position-small =
-          let size = sizeIn structures (g .ty) in
-          let few : g .count * 1 ≤ g .count * size = mul-le-mul-left (g .count) (bounded .some-bytes) in
-          omega (arith, position-inside, bounded .reach, bounded .within, few)
+pub index-is : (g : Place) (structures members : List Row) (names es : List ℕ) → indexOf structures g (lead noValues es) ≡ index (onWalk structures members names) es (placeOf g)
+unfolding indexOf index elementsFrom
+index-is g structures members names es =
+    let ns = g .lengths in
+    by-test (eqb (length1 ns) 0) (λ t. rw t)
+    (λ t.
+    let n : lead noValues es .count ≡ length es = counted noValues es ∙ zero-add (length es) in
+    by-test (eqb (length es) (dimsOf ns))
+    (λ u. let a = agrees ns t es (eqb-true (length es) (dimsOf ns) u) in rw (dims-are ns, n, u, a .0, a .1, t))
+    (λ u. rw (dims-are ns, n, u, t)))
 
-      module _ (p : ℕ) (is : p ≡ positionOf g v) where
-        pub position-counted : p ≤ g .count
-        position-counted = omega (arith, position-inside, bounded .reach, is)
+-- ---- sums and products stay small
 
-        pub position-within : g .start + p * sizeIn structures (g .ty) ≤ 65536
-        position-within = omega (arith, bounded .within, mul-le-mul-right (sizeIn structures (g .ty)) position-counted)
+module _ (structures : List Row) (g : Place) (bounded : Bounded structures g) (v : Values) (some-length : length1 (g .lengths) ≢ 0)
+    (b : Bool) (tested : b ≡ insideOf (g .lengths) v) (on : b ≡ true) where
+  inside : positionOf (g .lengths) v < product (openLengths (g .lengths))
+  inside = position-inside (g .lengths) v some-length b tested on
+
+  pub position-small : positionOf (g .lengths) v ≤ 65536
+  position-small =
+      let size = sizeIn structures (g .ty) in
+      let few : g .count * 1 ≤ g .count * size = mul-le-mul-left (g .count) (bounded .some-bytes) in
+      omega (arith, inside, bounded .reach, bounded .within, few)
+
+  module _ (p : ℕ) (is : p ≡ positionOf (g .lengths) v) where
+    pub position-counted : p ≤ g .count
+    position-counted = omega (arith, inside, bounded .reach, is)
+
+    pub position-within : g .start + p * sizeIn structures (g .ty) ≤ 65536
+    position-within = omega (arith, bounded .within, mul-le-mul-right (sizeIn structures (g .ty)) position-counted)
 
 pub ruleset positions = (position-small, position-counted, position-within)
 
 -- ---- a position, two or three indexes by one
 
-module _ (g : Place) (v : Values) (small : positionOf g v ≤ 65536) (second-length : g .n1 ≢ 0) where
-  pub row-second : (w : ℕ) → g .n2 ≡ 0 → w ≡ v .second → w * g .n1 + v .third ≤ 65536
-  row-second w z e = rw (e) (rw (ne-eqb (g .n1) 0 second-length, eq-eqb (g .n2) 0 z) at small)
+module _ (ns : List ℕ) (v : Values) (small : positionOf ns v ≤ 65536) (second-length : length2 ns ≢ 0) where
+  pub row-second : (w : ℕ) → length3 ns ≡ 0 → w ≡ v .second → w * length2 ns + v .third ≤ 65536
+  row-second w z e = rw (e) (rw (ne-eqb (length2 ns) 0 second-length, eq-eqb (length3 ns) 0 z) at small)
 
-  module _ (third-length : g .n2 ≢ 0) where
-    all-three : (v .first * g .n1 + v .second) * g .n2 + v .third ≤ 65536
-    all-three = rw (ne-eqb (g .n1) 0 second-length, ne-eqb (g .n2) 0 third-length) at small
+  module _ (third-length : length3 ns ≢ 0) where
+    all-three : (v .first * length2 ns + v .second) * length3 ns + v .third ≤ 65536
+    all-three = rw (ne-eqb (length2 ns) 0 second-length, ne-eqb (length3 ns) 0 third-length) at small
 
-    pub row-inner : (w : ℕ) → w ≡ v .first → w * g .n1 + v .second ≤ 65536
+    pub row-inner : (w : ℕ) → w ≡ v .first → w * length2 ns + v .second ≤ 65536
     row-inner w e =
-        let p = v .first * g .n1 + v .second in
-        let one : 1 ≤ g .n2 = omega (arith, third-length) in
-        let k : p * 1 ≤ p * g .n2 = mul-le-mul-left p one in
+        let p = v .first * length2 ns + v .second in
+        let one : 1 ≤ length3 ns = omega (arith, third-length) in
+        let k : p * 1 ≤ p * length3 ns = mul-le-mul-left p one in
         rw e (omega (arith, k, all-three))
 
-    pub row-outer : (w p : ℕ) → w ≡ v .first → p ≡ w * g .n1 + v .second → p * g .n2 + v .third ≤ 65536
+    pub row-outer : (w p : ℕ) → w ≡ v .first → p ≡ w * length2 ns + v .second → p * length3 ns + v .third ≤ 65536
     row-outer w p e f = rw (f, e) all-three
 
-    pub row-all : (w p q : ℕ) → w ≡ v .first → p ≡ w * g .n1 + v .second → q ≡ p * g .n2 + v .third → q ≡ positionOf g v
-    row-all w p q e f h = rw (ne-eqb (g .n1) 0 second-length, ne-eqb (g .n2) 0 third-length, h, f, e)
+    pub row-all : (w p q : ℕ) → w ≡ v .first → p ≡ w * length2 ns + v .second → q ≡ p * length3 ns + v .third → q ≡ positionOf ns v
+    row-all w p q e f h = rw (ne-eqb (length2 ns) 0 second-length, ne-eqb (length3 ns) 0 third-length, h, f, e)
 
-  pub row-both : (w q : ℕ) → g .n2 ≡ 0 → w ≡ v .second → q ≡ w * g .n1 + v .third → q ≡ positionOf g v
-  row-both w q z e f = rw (ne-eqb (g .n1) 0 second-length, eq-eqb (g .n2) 0 z, f, e)
+  pub row-both : (w q : ℕ) → length3 ns ≡ 0 → w ≡ v .second → q ≡ w * length2 ns + v .third → q ≡ positionOf ns v
+  row-both w q z e f = rw (ne-eqb (length2 ns) 0 second-length, eq-eqb (length3 ns) 0 z, f, e)
 
 pub ruleset row-laws = (row-second, row-inner, row-outer, row-all, row-both)
 
 -- ---- the answers, each from what the code knows there
 
-module _ (structures : List Row) (g : Place) (v : Values) (some-length : g .n0 ≢ 0) (k : ℕ) (counts : k ≡ dimsOf g) where
-  pub index-number : v .count ≢ k → turned pathError ≡ indexOf structures g v
+module _ (structures : List Row) (g : Place) (v : Values) (m : Resolved) where
+  pub index-closed : length1 (g .lengths) ≡ 0 → m ≡ turned pathError → m ≡ indexOf structures g v
   unfolding indexOf
-  index-number h = rw (ne-eqb (v .count) (dimsOf g) (λ e. h (e ∙ sym counts)), ne-eqb (g .n0) 0 some-length)
+  index-closed z e = rw (eq-eqb (length1 (g .lengths)) 0 z) e
 
-  module _ (same : v .count ≡ k) (b : Bool) (tested : b ≡ insideOf g v) where
-    pub index-outside : b ≡ false → turned pathUnknown ≡ indexOf structures g v
+  module _ (some-length : length1 (g .lengths) ≢ 0) (k : ℕ) (counts : k ≡ dimsOf (g .lengths)) where
+    pub index-number : v .count ≢ k → m ≡ turned pathError → m ≡ indexOf structures g v
     unfolding indexOf
-    index-outside off = rw (eq-eqb (v .count) (dimsOf g) (same ∙ counts), ← tested, off, ne-eqb (g .n0) 0 some-length)
+    index-number h e = rw (ne-eqb (v .count) (dimsOf (g .lengths)) (λ f. h (f ∙ sym counts)), ne-eqb (length1 (g .lengths)) 0 some-length) e
 
-    pub index-inside : b ≡ true → (p : ℕ) → p ≡ positionOf g v → (to : Place) → placeOf to ≡ elementsFrom (onlyStructures structures) (placeOf g) p
-        → found (placeOf to) ≡ indexOf structures g v
-    unfolding indexOf
-    index-inside on p e to f = rw (eq-eqb (v .count) (dimsOf g) (same ∙ counts), ← tested, on, ← e, ← f, ne-eqb (g .n0) 0 some-length)
+    module _ (same : v .count ≡ k) (b : Bool) (tested : b ≡ insideOf (g .lengths) v) where
+      pub index-outside : b ≡ false → m ≡ turned pathUnknown → m ≡ indexOf structures g v
+      unfolding indexOf
+      index-outside off e = rw (eq-eqb (v .count) (dimsOf (g .lengths)) (same ∙ counts), ← tested, off, ne-eqb (length1 (g .lengths)) 0 some-length) e
 
-pub ruleset index-laws = (index-number, index-outside, index-inside)
+      pub index-inside : b ≡ true → (p : ℕ) → p ≡ positionOf (g .lengths) v → (to : Place) → m ≡ found (placeOf to)
+          → placeOf to ≡ elementsFrom (onlyStructures structures) (placeOf g) p → m ≡ indexOf structures g v
+      unfolding indexOf
+      index-inside on p e to q f =
+          rw (eq-eqb (v .count) (dimsOf (g .lengths)) (same ∙ counts), ← tested, on, ← e, ← f, ne-eqb (length1 (g .lengths)) 0 some-length) q
+
+pub ruleset index-laws = (index-closed, index-number, index-outside, index-inside)

@@ -23,7 +23,7 @@ use Rattle.model.specs.declared.lookup.Found.{Found}
 use Rattle.model.specs.declared.lookup.Found.the-variants.{At, Nothing}
 use Rattle.model.proofs.Cases.{found-some, found-none}
 use Rattle.resolve.specs.declared.places.Place.{Place}
-use Rattle.resolve.specs.Places.{placeOf, openLengths}
+use Rattle.resolve.specs.Places.{length1, openLengths, placeOf}
 use Rattle.resolve.specs.Members.{amongBy, amongMembers, memberMove}
 
 -- ---- the row that a lookup found
@@ -73,37 +73,39 @@ module _ (members : List Row) (names name : List ℕ) (f : Flags) (g : Target) (
   unfolding amongMembers
   among-found i d e p = rw (found-some (memberIn members names name) v i is e) p
 
-  pub among-none : v ≡ Nothing → turned pathError ≡ amongMembers members names f name g
+  pub among-none : (d : Resolved) → v ≡ Nothing → d ≡ turned pathError → d ≡ amongMembers members names f name g
   unfolding amongMembers
-  among-none e = rw (found-none (memberIn members names name) v is e)
+  among-none d e p = rw (found-none (memberIn members names name) v is e) p
 
 pub ruleset among-laws = (among-inside, among-found, among-none)
 
 -- ---- a member's conditions
 
-open-some : (a b k : ℕ) → a ≢ 0 → isEmpty (nonzero (a ∷ b ∷ k ∷ [])) ≡ false
-open-some a b k h = rw (ne-eqb a 0 h)
+open-some : (ns : List ℕ) → length1 ns ≢ 0 → isEmpty (openLengths ns) ≡ false
+open-some ns h = rw (ne-eqb (length1 ns) 0 h)
 
-open-none : (a b k : ℕ) → a ≡ 0 → isEmpty (nonzero (a ∷ b ∷ k ∷ [])) ≡ true
-open-none a b k h = rw (eq-eqb a 0 h)
+open-none : (ns : List ℕ) → length1 ns ≡ 0 → isEmpty (openLengths ns) ≡ true
+open-none ns h = rw (eq-eqb (length1 ns) 0 h)
 
 module _ (structures members : List Row) (names : List ℕ) (f : Flags) (name : List ℕ) (g : Place) where
-  pub member-flat : g .ty < 256 → turned pathError ≡ memberMove structures members names f name (placeOf g)
-  unfolding memberMove
-  member-flat h = rw (lt-leb 256 (g .ty) h)
+  module _ (d : Resolved) (away : d ≡ turned pathError) where
+    pub member-flat : g .ty < 256 → d ≡ memberMove structures members names f name (placeOf g)
+    unfolding memberMove
+    member-flat h = rw (lt-leb 256 (g .ty) h) away
 
-  pub member-open : g .n0 ≢ 0 → turned pathError ≡ memberMove structures members names f name (placeOf g)
-  unfolding memberMove
-  member-open h = rw (open-some (g .n0) (g .n1) (g .n2) h, both-none (leb 256 (g .ty)))
+    pub member-open : length1 (g .lengths) ≢ 0 → d ≡ memberMove structures members names f name (placeOf g)
+    unfolding memberMove
+    member-open h = rw (open-some (g .lengths) h, both-none (leb 256 (g .ty))) away
 
-  pub member-bit : g .bit ≢ 8 → turned pathError ≡ memberMove structures members names f name (placeOf g)
-  unfolding memberMove
-  member-bit h = rw (ne-eqb (g .bit) 8 h, both-none (isEmpty (openLengths g)), both-none (leb 256 (g .ty)))
+    pub member-bit : g .bit ≢ 8 → d ≡ memberMove structures members names f name (placeOf g)
+    unfolding memberMove
+    member-bit h = rw (ne-eqb (g .bit) 8 h, both-none (isEmpty (openLengths (g .lengths))), both-none (leb 256 (g .ty))) away
 
-  pub member-among : (own : List Row) (d : Resolved) → 256 ≤ g .ty → g .n0 ≡ 0 → g .bit ≡ 8 → own ≡ membersIn members (structureIn structures (g .ty))
+  pub member-among : (own : List Row) (d : Resolved) → 256 ≤ g .ty → length1 (g .lengths) ≡ 0 → g .bit ≡ 8
+      → own ≡ membersIn members (structureIn structures (g .ty))
       → d ≡ amongMembers own names f name (placeOf g) → d ≡ memberMove structures members names f name (placeOf g)
   unfolding memberMove
-  member-among own d h z b e p = rw (le-leb 256 (g .ty) h, open-none (g .n0) (g .n1) (g .n2) z, eq-eqb (g .bit) 8 b, ← e) p
+  member-among own d h z b e p = rw (le-leb 256 (g .ty) h, open-none (g .lengths) z, eq-eqb (g .bit) 8 b, ← e) p
 
 pub ruleset member-laws = (member-flat, member-open, member-bit, member-among)
 

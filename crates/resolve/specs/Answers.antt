@@ -50,7 +50,7 @@ pub record Targets (structures members programs tags : List Row) (names tagNames
 
 -- a place as a target
 pub record Aims (structures : List Row) (g : Place) (r : Target) : Type 0 where
-  pub is : targetOf r (openLengths g) ≡ placeOf g
+  pub is : targetOf r (openLengths (g .lengths)) ≡ placeOf g
   pub size-is : r .size ≡ sizeIn structures (r .ty)
 
 -- `wholeTag` of a tag's row

@@ -19,7 +19,7 @@ use Rattle.path.specs.declared.Segment.{Segment}
 use Rattle.path.specs.declared.Segment.the-variants as path
 use Rattle.path.specs.declared.Segment.the-variants.{Port, Class, Instance, Attribute, Symbol, Invalid}
 use Rattle.resolve.specs.Paths.{left, leading, behind}
-use Rattle.resolve.specs.Places.{placeOf, openLengths, onlyStructures}
+use Rattle.resolve.specs.Places.{length1, length2, length3, openLengths, placeOf, onlyStructures}
 
 abbrev pub elementIn : Segment → Element
 elementIn (Port next) = Other
@@ -56,29 +56,30 @@ pub record Ran (path : List ℕ) (from : ℕ) (r : Run) : Type 0 where
   pub rest-is : left path (r .next) ≡ behind (left path from)
   pub decodes : isSome (segmentsFrom path (r .next)) ≡ true
 
-abbrev pub dimsOf : Place → ℕ
-dimsOf g = pick (eqb (g .n0) 0) 0 (pick (eqb (g .n1) 0) 1 (pick (eqb (g .n2) 0) 2 3))
+abbrev pub dimsOf : (lengths : List ℕ) → ℕ
+dimsOf ns = pick (eqb (length1 ns) 0) 0 (pick (eqb (length2 ns) 0) 1 (pick (eqb (length3 ns) 0) 2 3))
 
-abbrev pub insideOf : Place → Values → Bool
-insideOf g v =
-    pick (eqb (g .n1) 0) (ltb (v .third) (g .n0))
-    (pick (eqb (g .n2) 0) (both (ltb (v .second) (g .n0)) (ltb (v .third) (g .n1)))
-    (both (ltb (v .first) (g .n0)) (both (ltb (v .second) (g .n1)) (ltb (v .third) (g .n2)))))
+abbrev pub insideOf : (lengths : List ℕ) → Values → Bool
+insideOf ns v =
+    pick (eqb (length2 ns) 0) (ltb (v .third) (length1 ns))
+    (pick (eqb (length3 ns) 0) (both (ltb (v .second) (length1 ns)) (ltb (v .third) (length2 ns)))
+    (both (ltb (v .first) (length1 ns)) (both (ltb (v .second) (length2 ns)) (ltb (v .third) (length3 ns)))))
 
-abbrev pub positionOf : Place → Values → ℕ
-positionOf g v =
-    pick (eqb (g .n1) 0) (v .third)
-    (pick (eqb (g .n2) 0) (v .second * g .n1 + v .third) ((v .first * g .n1 + v .second) * g .n2 + v .third))
+abbrev pub positionOf : (lengths : List ℕ) → Values → ℕ
+positionOf ns v =
+    pick (eqb (length2 ns) 0) (v .third)
+    (pick (eqb (length3 ns) 0) (v .second * length2 ns + v .third) ((v .first * length2 ns + v .second) * length3 ns + v .third))
 
 unfoldable pub indexOf : (structures : List Row) → Place → Values → Resolved
 indexOf structures g v =
-    pick (eqb (g .n0) 0) (turned pathError)
-    (pick (eqb (v .count) (dimsOf g))
-    (pick (insideOf g v) (found (elementsFrom (onlyStructures structures) (placeOf g) (positionOf g v))) (turned pathUnknown))
+    let ns = g .lengths in
+    pick (eqb (length1 ns) 0) (turned pathError)
+    (pick (eqb (v .count) (dimsOf ns))
+    (pick (insideOf ns v) (found (elementsFrom (onlyStructures structures) (placeOf g) (positionOf ns v))) (turned pathUnknown))
     (turned pathError))
 
 -- what keeps sums and products small
 pub record Bounded (structures : List Row) (g : Place) : Type 0 where
   pub some-bytes : 0 < sizeIn structures (g .ty)
-  pub reach : product (openLengths g) ≤ g .count
+  pub reach : product (openLengths (g .lengths)) ≤ g .count
   pub within : g .start + g .count * sizeIn structures (g .ty) ≤ 65536

@@ -12,10 +12,9 @@ use Rattle.definition.specs.Resolve.{Target, Resolved, turned, moves, walk}
 use Rattle.definition.proofs.Inside.{Stands}
 use Rattle.cip.specs.Statuses.{statusOf}
 use Rattle.model.specs.Tables.{tablesOf}
-use Rattle.resolve.specs.declared.places.Moved.{Moved}
-use Rattle.resolve.specs.declared.places.Moved.the-variants as moved
+use Rattle.resolve.specs.declared.places.Turn.{Turn}
+use Rattle.resolve.specs.declared.places.Turn.the-variants.{Made, Turned}
 use Rattle.resolve.specs.declared.moves.Stepped.{Stepped}
-use Rattle.resolve.specs.declared.moves.Stepped.the-variants.{To, Turned}
 use Rattle.resolve.specs.Paths.{left}
 use Rattle.resolve.specs.Places.{placeOf, onWalk}
 
@@ -33,10 +32,6 @@ pub record Standing (structures members : List Row) (names : List ℕ) (g : Targ
 abbrev pub walked : (structures members : List Row) (names : List ℕ) → Flags → (path : List ℕ) (at : ℕ) → Target → Resolved
 walked structures members names f path at g = walk (onWalk structures members names) f (moves (left path at)) g
 
-abbrev pub arrived : Moved → ℕ → Stepped
-arrived (moved.To g) next = To g next
-arrived (moved.Turned s) next = Turned s
-
 -- a walk that goes on from a place
 pub record Onward (structures members : List Row) (names : List ℕ) (f : Flags) (path : List ℕ) (at : ℕ) (g p : Target) (next : ℕ) : Type 0 where
   pub same : walked structures members names f path next p ≡ walked structures members names f path at g
@@ -44,6 +39,10 @@ pub record Onward (structures members : List Row) (names : List ℕ) (f : Flags)
   pub shorter : length (left path next) < length (left path at)
   pub standing : Standing structures members names p
 
+abbrev pub StepsTo : (structures members : List Row) (names : List ℕ) → Flags → (path : List ℕ) (at : ℕ) (g p : Target) (next : ℕ) → Turn → Type 0
+StepsTo structures members names f path at g p next Made = Onward structures members names f path at g p next
+StepsTo structures members names f path at g p next (Turned s) = turned (statusOf s) ≡ walked structures members names f path at g
+
 abbrev pub Steps : (structures members : List Row) (names : List ℕ) → Flags → (path : List ℕ) (at : ℕ) → Target → Stepped → Type 0
-Steps structures members names f path at g (To p next) = Onward structures members names f path at g (placeOf p) next
-Steps structures members names f path at g (Turned s) = turned (statusOf s) ≡ walked structures members names f path at g
+Steps structures members names f path at g r =
+    StepsTo structures members names f path at g (placeOf (r .moved .place)) (r .next) (r .moved .turn)

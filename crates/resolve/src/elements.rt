@@ -1,4 +1,5 @@
 // A run of elements of a path, and the move that it is.
+use crate::places;
 use crate::places::Moved;
 use crate::places::Place;
 use cip::Status;
@@ -76,37 +77,37 @@ pub fn run_at(path: &[u8], from: usize) -> Run
 }
 
 /// How many lengths are open.
-fn dims(g: Place) -> usize
-    ensures { λ r. ⌜ r ≡ dimsOf g ⌝ }
+fn dims(lengths: [u32; 3]) -> usize
+    ensures { λ r. ⌜ r ≡ dimsOf lengths ⌝ }
 {
-    if g.n0 == 0 {
+    if lengths[0] == 0 {
         return 0;
     }
-    if g.n1 == 0 {
+    if lengths[1] == 0 {
         return 1;
     }
-    if g.n2 == 0 {
+    if lengths[2] == 0 {
         return 2;
     }
     3
 }
 
 /// Each index below its length.
-fn inside(g: Place, run: Run) -> bool
-    ensures { λ r. ⌜ r ≡ insideOf g (valuesOf run) ⌝ }
+fn inside(lengths: [u32; 3], run: Run) -> bool
+    ensures { λ r. ⌜ r ≡ insideOf lengths (valuesOf run) ⌝ }
 {
-    if g.n1 == 0 {
-        return run.third < g.n0;
+    if lengths[1] == 0 {
+        return run.third < lengths[0];
     }
-    if g.n2 == 0 {
-        if run.second < g.n0 {
-            return run.third < g.n1;
+    if lengths[2] == 0 {
+        if run.second < lengths[0] {
+            return run.third < lengths[1];
         }
         return false;
     }
-    if run.first < g.n0 {
-        if run.second < g.n1 {
-            return run.third < g.n2;
+    if run.first < lengths[0] {
+        if run.second < lengths[1] {
+            return run.third < lengths[2];
         }
     }
     false
@@ -121,17 +122,18 @@ fn row(p: usize, n: u32, e: u32) -> usize
 }
 
 /// The position that the indexes mean, row-major.
-fn position(g: Place, run: Run) -> usize
-    requires { ⌜ positionOf g (valuesOf run) ≤ 65536 ⌝ }
-    ensures { λ r. ⌜ r ≡ positionOf g (valuesOf run) ⌝ }
+fn position(lengths: [u32; 3], run: Run) -> usize
+    requires { ⌜ positionOf lengths (valuesOf run) ≤ 65536 ⌝ }
+    ensures { λ r. ⌜ r ≡ positionOf lengths (valuesOf run) ⌝ }
 {
-    if g.n1 == 0 {
+    if lengths[1] == 0 {
         return wide(run.third);
     }
-    if g.n2 == 0 {
-        return row(wide(run.second), g.n1, run.third);
+    if lengths[2] == 0 {
+        return row(wide(run.second), lengths[1], run.third);
     }
-    row(row(wide(run.first), g.n1, run.second), g.n2, run.third)
+    let outer = row(wide(run.first), lengths[1], run.second);
+    row(outer, lengths[2], run.third)
 }
 
 /// The elements from a position on.
@@ -145,9 +147,7 @@ fn elements_from(structures: &[[u32; 10]], g: Place, p: usize) -> Place
         start: g.start + p * size,
         ty: g.ty,
         count: g.count - p,
-        n0: 0,
-        n1: 0,
-        n2: 0,
+        lengths: [0, 0, 0],
         bit: g.bit,
         access: g.access,
     }
@@ -158,14 +158,15 @@ pub fn index(structures: &[[u32; 10]], g: Place, run: Run) -> Moved
     requires { ⌜ Bounded (now structures) g ⌝ }
     ensures { λ r. ⌜ movedOf r ≡ indexOf (now (structures .entry)) g (valuesOf run) ⌝ }
 {
-    if g.n0 == 0 {
-        return Moved::Turned(Status::PathError);
+    let lengths = g.lengths;
+    if lengths[0] == 0 {
+        return places::turn_away(g, Status::PathError);
     }
-    if run.count != dims(g) {
-        return Moved::Turned(Status::PathError);
+    if run.count != dims(lengths) {
+        return places::turn_away(g, Status::PathError);
     }
-    if inside(g, run) {
-        return Moved::To(elements_from(structures, g, position(g, run)));
+    if inside(lengths, run) {
+        return places::to(elements_from(structures, g, position(lengths, run)));
     }
-    Moved::Turned(Status::PathUnknown)
+    places::turn_away(g, Status::PathUnknown)
 }

@@ -8,7 +8,9 @@ use model::columns::TAG_ACCESS;
 use model::columns::TAG_ELEMENTS;
 use model::columns::TAG_OFFSET;
 use model::columns::TAG_TYPE;
+use places::Moved;
 use places::Place;
+use places::Turn;
 
 pub mod elements;
 pub mod members;
@@ -23,8 +25,8 @@ ghost use Rattle.laws.specs.Pick.{isSome};
 ghost use Rattle.definition.specs.Segment.{segments};
 ghost use Rattle.definition.specs.Tables.{tagElements};
 ghost use Rattle.model.specs.Tables.{flagsOf};
-ghost use Rattle.resolve.specs.Places.{placeOf};
-ghost use Rattle.resolve.specs.Answers.{Tabled, Resolves, Targets, Aims, wholeRow, closedTo, deniedTo, refusedTo};
+ghost use Rattle.resolve.specs.Places.{placeOf, movedOf};
+ghost use Rattle.resolve.specs.Answers.{Tabled, Answers, Resolves, Targets, Aims, wholeRow, closedTo, deniedTo, refusedTo};
 
 /// A tag path's target, or the status that turns it away.
 pub enum Resolved {
@@ -44,9 +46,7 @@ fn whole_tag(row: &[u32; 12], i: usize) -> Place
         start: cip::numbers::wide(row[TAG_OFFSET]),
         ty: row[TAG_TYPE],
         count: cip::numbers::wide(row[TAG_ELEMENTS]),
-        n0: lengths[0],
-        n1: lengths[1],
-        n2: lengths[2],
+        lengths: lengths,
         bit: NO_BIT,
         access: row[TAG_ACCESS],
     }
@@ -64,6 +64,20 @@ fn aim(structures: &[[u32; 10]], g: Place) -> Target
         count: g.count,
         bit: g.bit,
         access: g.access,
+    }
+}
+
+/// The answer that a walk along a path comes to.
+fn answer(structures: &[[u32; 10]], moved: Moved) -> Resolved
+    ensures { λ r. ⌜ Answers (now (structures .entry)) (movedOf moved) r ⌝ }
+{
+    let turn = moved.turn;
+    match turn {
+        Turn::Made => {
+            let place = moved.place;
+            Resolved::Found(aim(structures, place))
+        }
+        Turn::Turned(s) => Resolved::Turned(s),
     }
 }
 
@@ -85,18 +99,9 @@ pub fn resolve(
 {
     match start::tag_of(programs, tags, names, tag_names, flags, path) {
         start::Start::At(i, next) => {
-            match moves::follow(
-                structures,
-                members,
-                names,
-                flags,
-                path,
-                next,
-                whole_tag(&tags[i], i),
-            ) {
-                places::Moved::To(g) => Resolved::Found(aim(structures, g)),
-                places::Moved::Turned(s) => Resolved::Turned(s),
-            }
+            let first = whole_tag(&tags[i], i);
+            let moved = moves::follow(structures, members, names, flags, path, next, first);
+            answer(structures, moved)
         }
         start::Start::Turned(s) => Resolved::Turned(s),
     }

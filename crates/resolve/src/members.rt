@@ -1,4 +1,5 @@
 // A structure's members, and the move to one of them.
+use crate::places;
 use crate::places::Moved;
 use crate::places::Place;
 use cip::Status;
@@ -83,9 +84,7 @@ fn member_place(g: Place, row: &[u32; 9]) -> Place
             start: start,
             ty: cip::codes::BOOL,
             count: 1,
-            n0: 0,
-            n1: 0,
-            n2: 0,
+            lengths: [0, 0, 0],
             bit: row[MEMBER_BIT],
             access: access,
         };
@@ -95,9 +94,7 @@ fn member_place(g: Place, row: &[u32; 9]) -> Place
         start: start,
         ty: row[MEMBER_TYPE],
         count: wide(larger(1, row[MEMBER_LENGTH])),
-        n0: row[MEMBER_LENGTH],
-        n1: 0,
-        n2: 0,
+        lengths: [row[MEMBER_LENGTH], 0, 0],
         bit: row[MEMBER_BIT],
         access: access,
     }
@@ -118,9 +115,9 @@ fn visible_member(flags: Flags, g: Place, row: &[u32; 9]) -> Moved
     ensures { λ r. ⌜ movedOf r ≡ visibleMember (flagsOf flags) (placeOf g) (now (row .entry)) ⌝ }
 {
     if is_refused(row[MEMBER_LOCAL], flags.aoi_locals_refused) {
-        return Moved::Turned(Status::PathError);
+        return places::turn_away(g, Status::PathError);
     }
-    Moved::To(member_place(g, row))
+    places::to(member_place(g, row))
 }
 
 /// The first visible member of this name among some members.
@@ -130,7 +127,7 @@ fn among(members: &[[u32; 9]], names: &[u8], flags: Flags, name: &[u8], g: Place
 {
     match model::lookup::find_member(members, names, name) {
         Found::At(i) => visible_member(flags, g, &members[i]),
-        Found::Nothing => Moved::Turned(Status::PathError),
+        Found::Nothing => places::turn_away(g, Status::PathError),
     }
 }
 
@@ -148,13 +145,14 @@ pub fn member_of(
         (placeOf g) ⌝ }
 {
     if g.ty < model::types::FIRST_STRUCTURE {
-        return Moved::Turned(Status::PathError);
+        return places::turn_away(g, Status::PathError);
     }
-    if g.n0 != 0 {
-        return Moved::Turned(Status::PathError);
+    let lengths = g.lengths;
+    if lengths[0] != 0 {
+        return places::turn_away(g, Status::PathError);
     }
     if g.bit != NO_BIT {
-        return Moved::Turned(Status::PathError);
+        return places::turn_away(g, Status::PathError);
     }
     among(members_of(structures, members, g.ty), names, flags, name, g)
 }

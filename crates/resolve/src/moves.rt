@@ -1,6 +1,8 @@
 // The moves behind a path's tag: a run of elements is one, a name is one, any other segment is turned away.
+use crate::places;
 use crate::places::Moved;
 use crate::places::Place;
+use crate::places::Turn;
 use cip::Status;
 use model::Flags;
 use path::Segment;
@@ -9,23 +11,26 @@ ghost use mathlib.Core.Bool.{true};
 ghost use Prim.Native.Nat.{_<_};
 ghost use lib.ListN.{length};
 ghost use Rattle.laws.specs.Pick.{isSome};
+ghost use Rattle.definition.specs.Reply.{pathError};
 ghost use Rattle.definition.specs.Segment.{segmentsFrom};
+ghost use Rattle.definition.specs.Resolve.{turned};
 ghost use Rattle.model.specs.Tables.{flagsOf};
 ghost use Rattle.resolve.specs.Places.{placeOf, movedOf};
-ghost use Rattle.resolve.specs.Steps.{Standing, walked, Steps, arrived};
+ghost use Rattle.resolve.specs.Steps.{Standing, walked, Steps};
 
 /// What a move comes to, with where what follows it starts.
-pub enum Stepped {
-    To(Place, usize),
-    Turned(Status),
+pub struct Stepped {
+    pub moved: Moved,
+    pub next: usize,
 }
 
-fn arrive(m: Moved, next: usize) -> Stepped
-    ensures { λ r. ⌜ r ≡ arrived m next ⌝ }
+/// A segment that is no move.
+fn stray(g: Place, at: usize) -> Stepped
+    ensures { λ r. ⌜ movedOf (r .moved) ≡ turned pathError ⌝ }
 {
-    match m {
-        Moved::To(g) => Stepped::To(g, next),
-        Moved::Turned(s) => Stepped::Turned(s),
+    Stepped {
+        moved: places::turn_away(g, Status::PathError),
+        next: at,
     }
 }
 
@@ -48,24 +53,25 @@ fn step(
         Segment::Element(_, _) => {
             let run = crate::elements::run_at(path, at);
             let next = run.next;
-            arrive(crate::elements::index(structures, g, run), next)
+            let moved = crate::elements::index(structures, g, run);
+            Stepped {
+                moved: moved,
+                next: next,
+            }
         }
-        Segment::Symbol(start, n, next) => arrive(
-            crate::members::member_of(
-                structures,
-                members,
-                names,
-                flags,
-                path::symbol_name(path, start, n),
-                g,
-            ),
-            next,
-        ),
-        Segment::Port(_) => Stepped::Turned(Status::PathError),
-        Segment::Class(_, _) => Stepped::Turned(Status::PathError),
-        Segment::Instance(_, _) => Stepped::Turned(Status::PathError),
-        Segment::Attribute(_, _) => Stepped::Turned(Status::PathError),
-        Segment::Invalid => Stepped::Turned(Status::PathError),
+        Segment::Symbol(start, n, next) => {
+            let name = path::symbol_name(path, start, n);
+            let moved = crate::members::member_of(structures, members, names, flags, name, g);
+            Stepped {
+                moved: moved,
+                next: next,
+            }
+        }
+        Segment::Port(_) => stray(g, at),
+        Segment::Class(_, _) => stray(g, at),
+        Segment::Instance(_, _) => stray(g, at),
+        Segment::Attribute(_, _) => stray(g, at),
+        Segment::Invalid => stray(g, at),
     }
 }
 
@@ -86,15 +92,18 @@ pub fn follow(
     let mut at = from;
     let mut g = first;
     while at < path.len() {
-        match step(structures, members, names, flags, path, at, g) {
-            Stepped::To(p, next) => {
-                g = p;
-                at = next;
+        let stepped = step(structures, members, names, flags, path, at, g);
+        let moved = stepped.moved;
+        let turn = moved.turn;
+        match turn {
+            Turn::Made => {
+                g = moved.place;
+                at = stepped.next;
             }
-            Stepped::Turned(s) => {
-                return Moved::Turned(s);
+            Turn::Turned(_) => {
+                return moved;
             }
         }
     }
-    Moved::To(g)
+    places::to(g)
 }

@@ -1,20 +1,48 @@
 // A place on the way along a path: a target with the lengths of the array that is still open.
+use cip::Status;
+ghost use mathlib.Core.Path.{_≡_};
+ghost use Rattle.definition.specs.Resolve.{found, turned};
+ghost use Rattle.cip.specs.Statuses.{statusOf};
+ghost use Rattle.resolve.specs.Places.{placeOf, movedOf};
 
-/// The lengths stand first, zeros behind them; n0 is 0 for no array.
+/// The lengths stand first, zeros behind them; all are 0 for no array.
 pub struct Place {
     pub tag: usize,
     pub start: usize,
     pub ty: u32,
     pub count: usize,
-    pub n0: u32,
-    pub n1: u32,
-    pub n2: u32,
+    pub lengths: [u32; 3],
     pub bit: u32,
     pub access: u32,
 }
 
-/// What a move comes to.
-pub enum Moved {
-    To(Place),
-    Turned(cip::Status),
+/// Whether a move is made, or the status that turns it away.
+pub enum Turn {
+    Made,
+    Turned(Status),
+}
+
+/// What a move comes to: the place that it leads to, or the one that it was turned away from.
+/// (The place holds an array, which an enum cannot hold, so it stands beside the enum.)
+pub struct Moved {
+    pub turn: Turn,
+    pub place: Place,
+}
+
+pub fn to(g: Place) -> Moved
+    ensures { λ r. ⌜ movedOf r ≡ found (placeOf g) ⌝ }
+{
+    Moved {
+        turn: Turn::Made,
+        place: g,
+    }
+}
+
+pub fn turn_away(g: Place, s: Status) -> Moved
+    ensures { λ r. ⌜ movedOf r ≡ turned (statusOf s) ⌝ }
+{
+    Moved {
+        turn: Turn::Turned(s),
+        place: g,
+    }
 }

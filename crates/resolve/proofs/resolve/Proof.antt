@@ -47,9 +47,6 @@ returns c = search resolves
 returns-2 : tie.Need-returns-2
 returns-2 c = search resolves
 
-returns-3 : tie.Need-returns-3
-returns-3 c = search resolves
-
 pub resolve-spec : {M : Type 1} → statement M
 resolve-spec =
     tie.close
@@ -60,10 +57,7 @@ resolve-spec =
     shared-slice-element-whole-tag
     whole-tag-requires
     follow-requires
-    (λ c. search needs)
     (λ c κs. search needs)
     (λ c. search needs)
-    (λ c. search needs)
     returns
-    returns-2
-    returns-3)
+    returns-2)

@@ -1,5 +1,6 @@
 -- The tests in the order of `dimsOf`.
 use Rattle.laws.proofs.Chain.{chain}
+use borrow.Author.Needs.{needs}
 use Rattle.resolve.proofs.elements.dims.Statement.{statement}
 use Rattle.resolve.proofs.elements.dims.Tie as tie
 
@@ -16,4 +17,6 @@ returns-4 : tie.Need-returns-4
 returns-4 c = search chain
 
 pub dims-spec : {M : Type 1} → statement M
-dims-spec = tie.close (tie.spec returns returns-2 returns-3 returns-4)
+dims-spec =
+    tie.close
+    (tie.spec (λ c. search needs) returns (λ c. search needs) returns-2 (λ c. search needs) returns-3 returns-4)

@@ -1,5 +1,6 @@
 -- The tests in the order of `insideOf`.
 use Rattle.laws.proofs.Chain.{chain}
+use borrow.Author.Needs.{needs}
 use Rattle.resolve.proofs.elements.inside.Statement.{statement}
 use Rattle.resolve.proofs.elements.inside.Tie as tie
 
@@ -22,4 +23,20 @@ returns-6 : tie.Need-returns-6
 returns-6 c = search chain
 
 pub inside-spec : {M : Type 1} → statement M
-inside-spec = tie.close (tie.spec returns returns-2 returns-3 returns-4 returns-5 returns-6)
+inside-spec =
+    tie.close
+    (tie.spec
+    (λ c. search needs)
+    (λ c. search needs)
+    returns
+    (λ c. search needs)
+    (λ c. search needs)
+    (λ c. search needs)
+    returns-2
+    returns-3
+    (λ c. search needs)
+    (λ c. search needs)
+    (λ c. search needs)
+    returns-4
+    returns-5
+    returns-6)

@@ -11,27 +11,25 @@ returns c = search chain
 
 row-requires : tie.Need-row-requires
 row-requires c κs =
-    let if1 = c .before .before .before .if1 in
-    let start = c .before .before .before .before .before in
-    row-second (start .args .g) (valuesOf (start .args .run)) (start .pre) (if1 .left) _ (c .before .if2 .taken)
-    (c .wide2 .ensures)
+    let start = c .before .before .before in
+    row-second (start .args .t1) (valuesOf (start .args .run)) (start .pre) (c .before .before .if1 .left) _
+    (c .before .if2 .taken) (c .wide2 .ensures)
 
 returns-2 : tie.Need-returns-2
 returns-2 c = search row-laws
 
 row-requires-2 : tie.Need-row-requires-2
 row-requires-2 c κs =
-    let if1 = c .before .before .before .if1 in
-    let start = c .before .before .before .before .before in
-    row-inner (start .args .g) (valuesOf (start .args .run)) (start .pre) (if1 .left) (c .before .if2 .left) _
-    (c .wide3 .ensures)
+    let start = c .before .before .before in
+    row-inner (start .args .t1) (valuesOf (start .args .run)) (start .pre) (c .before .before .if1 .left)
+    (c .before .if2 .left) _ (c .wide3 .ensures)
 
 row-requires-3 : tie.Need-row-requires-3
 row-requires-3 c κs =
-    let back = c .before .before .before .before in let if1 = back .if1 in
-    let start = back .before .before in
-    row-outer (start .args .g) (valuesOf (start .args .run)) (start .pre) (if1 .left) (c .before .before .if2 .left) _ _
-    (c .before .wide3 .ensures) (c .row2 .ensures)
+    let if1 = c .before .before .before .if1 in
+    let start = c .before .before .before .before in
+    row-outer (start .args .t1) (valuesOf (start .args .run)) (start .pre) (if1 .left) (c .before .before .if2 .left) _
+    _ (c .before .wide3 .ensures) (c .row2 .ensures)
 
 returns-3 : tie.Need-returns-3
 returns-3 c = search row-laws
@@ -40,12 +38,17 @@ pub position-spec : {M : Type 1} → statement M
 position-spec =
     tie.close
     (tie.spec
+    (λ c. search needs)
     (λ c κs. search needs)
     returns
+    (λ c. search needs)
     (λ c κs. search needs)
+    (λ c. search needs)
     row-requires
     returns-2
     (λ c κs. search needs)
+    (λ c. search needs)
     row-requires-2
+    (λ c. search needs)
     row-requires-3
     returns-3)

@@ -31,5 +31,6 @@ among-spec =
     shared-slice-element-visible-member
     (λ c κs. search needs)
     (λ c. search needs)
+    (λ c κs. search needs)
     returns
     returns-2)

@@ -44,4 +44,5 @@ follow-spec =
     loop-again
     (λ c. search needs)
     returns
+    (λ c κs. search needs)
     returns-2)

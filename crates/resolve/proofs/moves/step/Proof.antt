@@ -47,16 +47,19 @@ step-spec =
     (λ c. search needs)
     (λ c κs. search needs)
     index-requires
-    (λ c κs. search needs)
     (λ c. search needs)
     symbol-name-requires
     member-of-requires
+    (λ c. search needs)
     (λ c κs. search needs)
     (λ c. search needs)
+    (λ c κs. search needs)
     (λ c. search needs)
+    (λ c κs. search needs)
     (λ c. search needs)
+    (λ c κs. search needs)
     (λ c. search needs)
-    (λ c. search needs)
+    (λ c κs. search needs)
     returns
     returns-2
     returns-3
