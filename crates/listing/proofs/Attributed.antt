@@ -1,6 +1,7 @@
 -- A symbol's attributes one by one.
 -- Assumes nothing.
 use mathlib.Core.Path.{_≡_, refl, sym, ap, _∙_}
+use mathlib.Core.Logic.{_≢_}
 use mathlib.Core.List.{List, [], _∷_, _++_, append-assoc, append-nil}
 use Prim.Native.Nat.{ℕ, _+_, _*_, _%_, _≤_, _<_}
 use native.Mathlib.Omega.{arith}
@@ -10,7 +11,7 @@ use borrow.Author.Tests.{eq-eqb, ne-eqb}
 use Rattle.laws.specs.Put.{put}
 use Rattle.laws.proofs.Put.{put-none, put-then}
 use Rattle.definition.specs.Bytes.{u16At, le16, le32, numbers}
-use Rattle.definition.specs.Symbols.{Symbol as Defined, symbolAttribute, attributesOf}
+use Rattle.definition.specs.Symbols.{Symbol as Defined, symbolAttribute, attributesOf, three32}
 use Rattle.cip.specs.Writes.{Written}
 use Rattle.model.proofs.Laws.{le16-low}
 use Rattle.listing.specs.Values.{valueBytes}
@@ -37,15 +38,8 @@ module _ (name : List ℕ) (s : Symbol) (a : ℕ) where
   unfolding symbolAttribute
   name-attribute e = rw (eq-eqb a 1 e)
 
-  pub other-attribute : (v : Value) → (a ≡ 1 → ⊥) → valueBytes v ≡ otherAttribute s a → valueBytes v ≡ symbolAttribute (made name s) a
-  unfolding symbolAttribute otherAttribute
-  other-attribute v n e = rw (ne-eqb a 1 n) e
-
   pub name-length : a ≡ 1 → 2 + length name ≡ length (symbolAttribute (made name s) a)
   name-length e = rw (name-attribute e) (omega arith)
-
-  pub other-length : (v : Value) (k : ℕ) → (a ≡ 1 → ⊥) → valueBytes v ≡ otherAttribute s a → k ≡ length (valueBytes v) → k ≡ length (symbolAttribute (made name s) a)
-  other-length v k n e l = l ∙ ap length (other-attribute v n e)
 
   pub name-written : (at w : ℕ) (old x y : List ℕ) → a ≡ 1 → w ≡ length name % 65536 → x ≡ put old at (le16 w) → y ≡ put x (at + 2) name
       → at + length (symbolAttribute (made name s) a) ≤ length old → Written at (symbolAttribute (made name s) a) old (2 + length name) y
@@ -56,12 +50,33 @@ module _ (name : List ℕ) (s : Symbol) (a : ℕ) where
         ∙ ap (λ (l : List ℕ). put old at (l ++ name)) (low-same w (length name) u));
   }
 
-  pub other-written : (v : Value) (at k : ℕ) (old y : List ℕ) → (a ≡ 1 → ⊥) → valueBytes v ≡ otherAttribute s a → Written at (valueBytes v) old k y
-      → Written at (symbolAttribute (made name s) a) old k y
-  other-written v at k old y n e w = rw (← (other-attribute v n e)) w
+  module _ (eight : a ≡ 8) where
+    lengths-attribute : symbolAttribute (made name s) a ≡ three32 (s .lengths)
+    unfolding symbolAttribute
+    lengths-attribute = rw eight
 
-  pub other-room : (v : Value) (at m : ℕ) → (a ≡ 1 → ⊥) → valueBytes v ≡ otherAttribute s a → at + length (symbolAttribute (made name s) a) ≤ m → at + length (valueBytes v) ≤ m
-  other-room v at m n e h = rw (other-attribute v n e) h
+    pub lengths-length : 12 ≡ length (symbolAttribute (made name s) a)
+    lengths-length = rw lengths-attribute
+
+    pub lengths-room : (at m : ℕ) → at + length (symbolAttribute (made name s) a) ≤ m → at + 12 ≤ m
+    lengths-room at m h = omega (arith, lengths-length)
+
+    pub lengths-written : (at : ℕ) (old y : List ℕ) → y ≡ put old at (three32 (s .lengths)) → Written at (symbolAttribute (made name s) a) old 12 y
+    lengths-written at old y p = record { length-is = lengths-length; buffer-is = rw lengths-attribute p }
+
+  module _ (v : Value) (other : a ≢ 1) (another : a ≢ 8) (is : valueBytes v ≡ otherAttribute s a) where
+    other-attribute : valueBytes v ≡ symbolAttribute (made name s) a
+    unfolding symbolAttribute otherAttribute
+    other-attribute = rw (ne-eqb a 1 other, ne-eqb a 8 another) is
+
+    pub other-length : (k : ℕ) → k ≡ length (valueBytes v) → k ≡ length (symbolAttribute (made name s) a)
+    other-length k l = l ∙ ap length other-attribute
+
+    pub other-written : (at k : ℕ) (old y : List ℕ) → Written at (valueBytes v) old k y → Written at (symbolAttribute (made name s) a) old k y
+    other-written at k old y w = rw (← other-attribute) w
+
+    pub other-room : (at m : ℕ) → at + length (symbolAttribute (made name s) a) ≤ m → at + length (valueBytes v) ≤ m
+    other-room at m h = rw other-attribute h
 
 -- ---- all of them
 

@@ -23,7 +23,7 @@ use Rattle.model.proofs.Laws.{le16-low}
 use Rattle.listing.specs.Values.{valueOf, valueBytes, reference}
 use Rattle.listing.specs.Objects.{countIn, objectValue, unknownWord}
 use Rattle.listing.specs.declared.values.Value.{Value}
-use Rattle.listing.specs.declared.values.Value.the-variants.{Byte, Short, Long, Three, Reference, Unknown}
+use Rattle.listing.specs.declared.values.Value.the-variants.{Byte, Short, Long, Reference, Unknown}
 use Rattle.listing.specs.declared.attributes.Object.{Object}
 use Rattle.listing.specs.declared.attributes.Count.{Count}
 use Rattle.listing.specs.declared.attributes.Count.the-variants.{Of, Missing}
@@ -130,7 +130,6 @@ pub value-short : (v : Value) → length (valueBytes v) ≤ 12
 value-short (Byte b) = omega arith
 value-short (Short x) = omega arith
 value-short (Long x) = omega arith
-value-short (Three a b c) = omega arith
 value-short (Reference i) = omega arith
 value-short Unknown = omega arith
 
@@ -139,7 +138,6 @@ entry-bytes : (a : ℕ) (v : Value) → le16 a ++ le16 (unknownWord v) ++ valueB
 entry-bytes a (Byte b) = refl
 entry-bytes a (Short x) = refl
 entry-bytes a (Long x) = refl
-entry-bytes a (Three x y z) = refl
 entry-bytes a (Reference i) = refl
 entry-bytes a Unknown = refl
 

@@ -22,7 +22,7 @@ use Rattle.listing.specs.Entries.{made}
 use Rattle.listing.specs.declared.entries.Symbol.{Symbol}
 use Rattle.definition.specs.Bytes.{u16At, le32, numbers}
 use Rattle.definition.specs.Symbols.{Symbol as Defined, baseTag, tagSymbol, listedLengths, attributesOf}
-use Rattle.model.specs.Shapes.{shapesOf, dwordArray}
+use Rattle.model.specs.Shapes.{shapesOf}
 use Rattle.model.proofs.Laws.{listed-lengths}
 use Rattle.listing.proofs.Lists.{numbers-next}
 
@@ -34,10 +34,9 @@ long-row r h =
 
 module _ (r : Row) (long : 8 ≤ length r) where
   -- the three lengths as listed
-  pub listed-three : (xs : List (List ℕ)) → xs ≡ shapesOf r → getD (getD xs 0 []) 0 0 ∷ getD (getD xs 0 []) 1 0 ∷ getD (getD xs 0 []) 2 0 ∷ [] ≡ listedLengths r
+  pub listed-three : (xs : List (List ℕ)) → xs ≡ shapesOf r → getD xs 0 [] ≡ listedLengths r
   unfolding shapesOf
-  listed-three xs e =
-      rw (e, ← (listed-lengths r long)) (by-test (dwordArray (tagType r) (field 5 r)) (λ t. rw t) (λ t. rw t))
+  listed-three xs e = rw e (listed-lengths r long)
 
   -- and their number
   pub lengths-three : nonzero (field 5 r ∷ field 6 r ∷ field 7 r ∷ []) ≡ lengthsOf r
@@ -47,16 +46,15 @@ module _ (r : Row) (long : 8 ≤ length r) where
 pub tag-made : (structures members programs tags others : List Row) (names tagNames templates : List ℕ) (r : Row) (s : Symbol) (count : ℕ) (xs : List (List ℕ))
     → s .id ≡ tagId r → count ≡ length (nonzero (field 5 r ∷ field 6 r ∷ field 7 r ∷ [])) → s .kind ≡ symbolType structures (tagType r) count
     → s .control ≡ pick (marked (isAlias r)) 0 baseTag → s .size ≡ sizeIn structures (tagType r) → xs ≡ shapesOf r
-    → s .first ≡ getD (getD xs 0 []) 0 0 → s .second ≡ getD (getD xs 0 []) 1 0 → s .third ≡ getD (getD xs 0 []) 2 0 → s .access ≡ tagAccess r % 256
+    → s .lengths ≡ getD xs 0 [] → s .access ≡ tagAccess r % 256
     → tagAccess r ≤ 3 → 0 < tagElements r
     → made (tagName tagNames r) s ≡ tagSymbol (tablesOf structures members programs tags others names tagNames templates) r
 unfolding tagSymbol
-tag-made structures members programs tags others names tagNames templates r s count xs a n k b z x f g h w small some =
+tag-made structures members programs tags others names tagNames templates r s count xs a n k b z x f w small some =
     let long = long-row r some in
     let access : s .access ≡ tagAccess r = omega arith in
     let kind : s .kind ≡ symbolType structures (tagType r) (length (lengthsOf r)) = k ∙ ap (symbolType structures (tagType r)) (n ∙ ap length (lengths-three r long)) in
-    let three : s .first ∷ s .second ∷ s .third ∷ [] ≡ listedLengths r = rw (f, g, h) (listed-three r long xs x) in
-    rw (a, kind, b, z, three, access)
+    rw (a, kind, b, z, f ∙ listed-three r long xs x, access)
 
 -- ---- lists of attributes that a page knows
 

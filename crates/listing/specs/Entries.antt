@@ -17,7 +17,6 @@ use Rattle.definition.specs.Symbols.{Symbol as Defined, tagSymbol, otherSymbol,
 use Rattle.model.specs.Tables.{tablesOf}
 use Rattle.listing.specs.declared.pages.Step.{Step}
 use Rattle.listing.specs.declared.pages.Step.the-variants.{More, Full, Done}
-use Rattle.listing.specs.Values.{three}
 use Rattle.listing.specs.declared.entries.Symbol.{Symbol}
 
 abbrev pub made : (name : List ℕ) → Symbol → Defined
@@ -27,11 +26,11 @@ made name s = record {
   type = s .kind;
   control = s .control;
   size = s .size;
-  lengths = s .first ∷ s .second ∷ s .third ∷ [];
+  lengths = s .lengths;
   access = s .access;
 }
 
--- `symbolAttribute` of a number other than 1
+-- `symbolAttribute` of a number other than 1 and 8
 unfoldable pub otherAttribute : Symbol → (number : ℕ) → List ℕ
 otherAttribute s a =
     pick (eqb a 2) (le16 (s .kind))
@@ -39,8 +38,7 @@ otherAttribute s a =
     (pick (eqb a 5) (le32 ((s .id * 0x40 + 0x2000) % 4294967296))
     (pick (eqb a 6) (le32 (s .control))
     (pick (eqb a 7) (le16 (s .size))
-    (pick (eqb a 8) (three (s .first) (s .second) (s .third))
-    (s .access ∷ []))))))
+    (s .access ∷ [])))))
 
 -- what a tag's row has to be for its symbol: where the tables are valid it is
 abbrev pub Listable : (r : Row) → Type 0

@@ -13,7 +13,7 @@ use Rattle.definition.specs.Lookup.{programIn, idIn}
 use Rattle.definition.specs.Attributes.{programReference, listReply}
 use Rattle.model.specs.Tables.{tablesOf}
 use Rattle.listing.specs.declared.values.Value.{Value}
-use Rattle.listing.specs.declared.values.Value.the-variants.{Byte, Short, Long, Three, Reference, Unknown}
+use Rattle.listing.specs.declared.values.Value.the-variants.{Byte, Short, Long, Reference, Unknown}
 use Rattle.listing.specs.declared.attributes.Object.{Object}
 use Rattle.listing.specs.declared.attributes.Object.the-variants.{Structure, Program, Plain}
 use Rattle.listing.specs.declared.attributes.Count.{Count}
@@ -37,7 +37,6 @@ abbrev pub unknownWord : Value → ℕ
 unknownWord (Byte b) = 0
 unknownWord (Short x) = 0
 unknownWord (Long x) = 0
-unknownWord (Three a b c) = 0
 unknownWord (Reference i) = 0
 unknownWord Unknown = 0x0014
 

@@ -129,7 +129,6 @@ fn status_of(v: Value) -> u16
         Value::Byte(_) => 0,
         Value::Short(_) => 0,
         Value::Long(_) => 0,
-        Value::Three(_, _, _) => 0,
         Value::Reference(_) => 0,
         Value::Unknown => UNKNOWN,
     }

@@ -19,9 +19,7 @@ pub struct Symbol {
     pub kind: u32,
     pub control: u32,
     pub size: u32,
-    pub first: u32,
-    pub second: u32,
-    pub third: u32,
+    pub lengths: [u32; 3],
     pub access: u8,
 }
 
@@ -39,7 +37,7 @@ fn address_of(id: u32, factor: u32, offset: u32) -> u32
     std::num::wrapping_add_u32(wrapping_mul32(id, factor), offset)
 }
 
-/// An attribute other than the name.
+/// An attribute other than the name and the lengths.
 fn symbol_value(s: Symbol, number: u16) -> Value
     ensures { λ r. ⌜ valueBytes r ≡ otherAttribute s number ⌝ }
 {
@@ -58,9 +56,6 @@ fn symbol_value(s: Symbol, number: u16) -> Value
     if number == 7 {
         return Value::Short(numbers::low16(s.size));
     }
-    if number == 8 {
-        return Value::Three(s.first, s.second, s.third);
-    }
     Value::Byte(s.access)
 }
 
@@ -71,6 +66,9 @@ fn attribute_size(name: &[u8], s: Symbol, number: u16) -> usize
 {
     if number == 1 {
         return 2 + name.len();
+    }
+    if number == 8 {
+        return values::LENGTHS_SIZE;
     }
     values::value_size(symbol_value(s, number))
 }
@@ -83,6 +81,11 @@ fn put_attribute(buf: &mut [u8], at: usize, name: &[u8], s: Symbol, number: u16)
         cip::put_u16(buf, at, numbers::low16_size(name.len()));
         cip::copy_into(buf, at + 2, name);
         return 2 + name.len();
+    }
+    if number == 8 {
+        let lengths = s.lengths;
+        values::put_lengths(buf, at, lengths);
+        return values::LENGTHS_SIZE;
     }
     values::put_value(buf, at, symbol_value(s, number))
 }

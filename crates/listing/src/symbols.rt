@@ -12,7 +12,7 @@ use model::columns::TAG_TYPE;
 ghost use mathlib.Core.Path.{_≡_};
 ghost use mathlib.Core.List.{[], _∷_};
 ghost use Prim.Native.Nat.{_%_, _≤_};
-ghost use lib.ListN.{length};
+ghost use lib.ListN.{length, getD};
 ghost use Rattle.laws.specs.Pick.{pick};
 ghost use Rattle.definition.specs.Tables.{nonzero};
 ghost use Rattle.definition.specs.Lookup.{marked};
@@ -23,16 +23,16 @@ ghost use Rattle.listing.specs.Entries.{Listable, TagMade, OtherMade};
 const BASE_TAG: u32 = 0x4000000;
 
 /// Nonzero lengths stand first.
-fn count_lengths(a: u32, b: u32, c: u32) -> u32
-    ensures { λ r. ⌜ (r ≡ length (nonzero (a ∷ b ∷ c ∷ []))) × (r ≤ 3) ⌝ }
+fn count_lengths(lengths: [u32; 3]) -> u32
+    ensures { λ r. ⌜ (r ≡ length (nonzero (getD lengths 0 0 ∷ getD lengths 1 0 ∷ getD lengths 2 0 ∷ []))) × (r ≤ 3) ⌝ }
 {
-    if a == 0 {
+    if lengths[0] == 0 {
         return 0;
     }
-    if b == 0 {
+    if lengths[1] == 0 {
         return 1;
     }
-    if c == 0 {
+    if lengths[2] == 0 {
         return 2;
     }
     3
@@ -58,20 +58,15 @@ pub fn tag_symbol(structures: &[[u32; 10]], row: &[u32; 12]) -> Symbol
     requires { ⌜ Listable (now row) ⌝ }
     ensures { λ r. ⌜ TagMade (now (structures .entry)) (now (row .entry)) r ⌝ }
 {
+    let own = [row[TAG_LENGTH_1], row[TAG_LENGTH_2], row[TAG_LENGTH_3]];
     let shapes = model::shapes::shapes(row);
     let listed = shapes[0];
     Symbol {
         id: row[TAG_ID],
-        kind: model::types::symbol_type(
-            structures,
-            row[TAG_TYPE],
-            count_lengths(row[TAG_LENGTH_1], row[TAG_LENGTH_2], row[TAG_LENGTH_3]),
-        ),
+        kind: model::types::symbol_type(structures, row[TAG_TYPE], count_lengths(own)),
         control: control_of(row[TAG_ALIAS]),
         size: model::types::element_size(structures, row[TAG_TYPE]),
-        first: listed[0],
-        second: listed[1],
-        third: listed[2],
+        lengths: listed,
         access: low8(row[TAG_ACCESS]),
     }
 }
@@ -84,9 +79,7 @@ pub fn other_symbol(row: &[u32; 5]) -> Symbol
         kind: row[OTHER_TYPE],
         control: 0,
         size: 0,
-        first: 0,
-        second: 0,
-        third: 0,
+        lengths: [0, 0, 0],
         access: 0,
     }
 }

@@ -4,15 +4,15 @@ ghost use mathlib.Core.List.{[], _∷_, _++_};
 ghost use Prim.Native.Nat.{_+_, _≤_};
 ghost use lib.ListN.{length};
 ghost use Rattle.laws.specs.Put.{put};
+ghost use Rattle.definition.specs.Symbols.{three32};
 ghost use Rattle.cip.specs.Writes.{Written};
-ghost use Rattle.listing.specs.Values.{valueBytes, three, reference};
+ghost use Rattle.listing.specs.Values.{valueBytes, reference};
 
-/// An attribute's value by its layout.
+/// An attribute's value by its layout. (The three lengths are an array, which an enum cannot hold: they are put by themselves.)
 pub enum Value {
     Byte(u8),
     Short(u16),
     Long(u32),
-    Three(u32, u32, u32),
     /// A program, by the instance of its object.
     Reference(u16),
     Unknown,
@@ -21,13 +21,16 @@ pub enum Value {
 /// A path of three words: class 0x68, and an instance of 16 bits, which follows.
 const PROGRAM_PATH: [u8; 5] = [0x03, 0x20, 0x68, 0x25, 0x00];
 
-fn put_three(buf: &mut [u8], at: usize, a: u32, b: u32, c: u32)
+/// The bytes of three lengths.
+pub const LENGTHS_SIZE: usize = 12;
+
+pub fn put_lengths(buf: &mut [u8], at: usize, lengths: [u32; 3])
     requires { ⌜ at + 12 ≤ length (now buf) ⌝ }
-    ensures { λ _. ⌜ now (buf .exit) ≡ put (now (buf .entry)) at (three a b c) ⌝ }
+    ensures { λ _. ⌜ now (buf .exit) ≡ put (now (buf .entry)) at (three32 lengths) ⌝ }
 {
-    cip::put_u32(buf, at, a);
-    cip::put_u32(buf, at + 4, b);
-    cip::put_u32(buf, at + 8, c);
+    cip::put_u32(buf, at, lengths[0]);
+    cip::put_u32(buf, at + 4, lengths[1]);
+    cip::put_u32(buf, at + 8, lengths[2]);
 }
 
 fn put_reference(buf: &mut [u8], at: usize, instance: u16)
@@ -47,7 +50,6 @@ pub fn value_size(v: Value) -> usize
         Value::Byte(_) => 1,
         Value::Short(_) => 2,
         Value::Long(_) => 4,
-        Value::Three(_, _, _) => 12,
         Value::Reference(_) => 7,
         Value::Unknown => 0,
     }
@@ -69,10 +71,6 @@ pub fn put_value(buf: &mut [u8], at: usize, v: Value) -> usize
         Value::Long(x) => {
             cip::put_u32(buf, at, x);
             return 4;
-        }
-        Value::Three(a, b, c) => {
-            put_three(buf, at, a, b, c);
-            return 12;
         }
         Value::Reference(x) => {
             put_reference(buf, at, x);

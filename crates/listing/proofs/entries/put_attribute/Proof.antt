@@ -1,6 +1,6 @@
--- A name is its length and, right behind it, its text; any other attribute has the bytes of its value.
+-- A name is its length and, right behind it, its text; the lengths are three words; any other attribute has the bytes of its value.
 use native.Mathlib.Omega.{arith}
-use Rattle.listing.proofs.Attributed.{name-length, name-written, other-room, other-written}
+use Rattle.listing.proofs.Attributed.{name-length, name-written, lengths-room, lengths-written, other-room, other-written}
 use borrow.Author.Needs.{needs}
 use Rattle.listing.proofs.entries.put_attribute.Statement.{statement}
 use Rattle.listing.proofs.entries.put_attribute.Tie as tie
@@ -28,19 +28,34 @@ returns c =
     name-written (start .args .name .now) (start .args .s) (start .args .number) _ _ _ _ _ (if1 .taken)
     (low16-size .ensures) (put-u16 .ensures) (c .before .before .copy-into .ensures) (start .pre)
 
-put-value-requires : tie.Need-put-value-requires
-put-value-requires c κs =
-    let start = c .before .before .before .before .before in
-    other-room (start .args .name .now) (start .args .s) (start .args .number) (c .symbol-value .result)
-    (start .args .at) _ (c .before .before .if1 .left) (c .symbol-value .ensures) (start .pre)
+put-lengths-requires : tie.Need-put-lengths-requires
+put-lengths-requires c κs =
+    let start = c .before .before .before .before .before .before in
+    lengths-room (start .args .name .now) (start .args .s) (start .args .number) (c .before .before .if2 .taken)
+    (start .args .at) _ (start .pre)
 
 returns-2 : tie.Need-returns-2
 returns-2 c =
+    let back = c .before .before .before .before .before in let if2 = back .if2 in
+    let args = back .before .before .before .before .args in
+    lengths-written (args .name .now) (args .s) (args .number) (if2 .taken) _ _ _
+    (c .before .before .put-lengths .ensures)
+
+put-value-requires : tie.Need-put-value-requires
+put-value-requires c κs =
+    let if1 = c .before .before .before .if1 in
+    let start = c .before .before .before .before .before .before in
+    other-room (start .args .name .now) (start .args .s) (start .args .number) (c .symbol-value .result) (if1 .left)
+    (c .before .before .if2 .left) (c .symbol-value .ensures) (start .args .at) _ (start .pre)
+
+returns-3 : tie.Need-returns-3
+returns-3 c =
     let back = c .before .before .before in let symbol-value = back .symbol-value in
-    let if1 = back .before .before .if1 in
-    let args = back .before .before .before .before .before .args in
-    other-written (args .name .now) (args .s) (args .number) (symbol-value .result) _ _ _ _ (if1 .left)
-    (symbol-value .ensures) (c .before .before .put-value .ensures)
+    let back = back .before .before in let if2 = back .if2 in
+    let if1 = back .before .if1 in
+    let args = back .before .before .before .before .args in
+    other-written (args .name .now) (args .s) (args .number) (symbol-value .result) (if1 .left) (if2 .left)
+    (symbol-value .ensures) _ _ _ _ (c .before .before .put-value .ensures)
 
 pub put-attribute-spec : {M : Type 1} → statement M
 put-attribute-spec =
@@ -53,7 +68,10 @@ put-attribute-spec =
     (λ c. search needs)
     (λ c. search needs)
     returns
+    put-lengths-requires
+    (λ c. search needs)
+    returns-2
     (λ c κs. search needs)
     put-value-requires
     (λ c. search needs)
-    returns-2)
+    returns-3)

@@ -30,10 +30,6 @@ returns-6 : tie.Need-returns-6
 unfolding otherAttribute
 returns-6 c = search chain
 
-returns-7 : tie.Need-returns-7
-unfolding otherAttribute
-returns-7 c = search chain
-
 pub symbol-value-spec : {M : Type 1} → statement M
 symbol-value-spec =
     tie.close
@@ -47,5 +43,4 @@ symbol-value-spec =
     returns-4
     (λ c κs. search needs)
     returns-5
-    returns-6
-    returns-7)
+    returns-6)

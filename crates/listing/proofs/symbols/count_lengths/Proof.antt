@@ -17,4 +17,6 @@ returns-4 : tie.Need-returns-4
 returns-4 c = (rw (ne-eqb _ _ (c .before .before .if1 .left), ne-eqb _ _ (c .before .if2 .left), ne-eqb _ _ (c .if3 .left)), search needs)
 
 pub count-lengths-spec : {M : Type 1} → statement M
-count-lengths-spec = tie.close (tie.spec returns returns-2 returns-3 returns-4)
+count-lengths-spec =
+    tie.close
+    (tie.spec (λ c. search needs) returns (λ c. search needs) returns-2 (λ c. search needs) returns-3 returns-4)

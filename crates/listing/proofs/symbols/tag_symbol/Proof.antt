@@ -1,5 +1,4 @@
--- `listing::symbols::tag_symbol` meets its contract: each field is what its callee ensures of the row, the access is below 256 as the row's is at most 3, and
--- the row is long enough for its lengths as it has elements.
+-- Each field is what its callee ensures of the row; the access, at most 3, is below 256, and a row with elements is long enough for its lengths.
 use mathlib.Core.Path.{refl}
 use Rattle.listing.proofs.Made.{tag-made}
 use borrow.Author.Needs.{needs}
@@ -11,32 +10,29 @@ returns c =
     let back = c .before .before .before .before in let control-of = back .control-of in
     let back = back .before .before in let symbol-type = back .symbol-type in
     let count-lengths = back .before .count-lengths in
-    let back = back .before .before .before .before .before .before .before .before in let shapes = back .shapes in
-    let start = back .before in
+    let back = back .before .before .before .before .before in let shapes = back .shapes in
+    let start = back .before .before .before .before in
     λ m p t o n q z. tag-made (start .args .structures .now) m p t o n q z (start .args .row .now) _ _ _ refl
     (count-lengths .ensures .0) (symbol-type .ensures) (control-of .ensures) (c .before .before .element-size .ensures)
-    (shapes .ensures) refl refl refl (c .low8 .ensures) (start .pre .0) (start .pre .1)
+    (shapes .ensures) refl (c .low8 .ensures) (start .pre .0) (start .pre .1)
 
 pub tag-symbol-spec : {M : Type 1} → statement M
 tag-symbol-spec =
     tie.close
     (tie.spec
-    (λ c κs. search needs)
-    (λ c. search needs)
-    (λ c. search needs)
-    (λ c. search needs)
     (λ c. search needs)
     (λ c. search needs)
     (λ c. search needs)
     (λ c κs. search needs)
+    (λ c. search needs)
+    (λ c. search needs)
+    (λ c. search needs)
+    (λ c κs. search needs)
     (λ c κs. search needs)
     (λ c. search needs)
     (λ c κs. search needs)
     (λ c. search needs)
     (λ c κs. search needs)
-    (λ c. search needs)
-    (λ c. search needs)
-    (λ c. search needs)
     (λ c. search needs)
     (λ c κs. search needs)
     returns)

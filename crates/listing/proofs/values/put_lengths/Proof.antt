@@ -3,8 +3,8 @@ use mathlib.Core.Path.{refl}
 use native.Mathlib.Omega.{arith}
 use Rattle.laws.proofs.Put.{put-then}
 use borrow.Author.Needs.{needs}
-use Rattle.listing.proofs.values.put_three.Statement.{statement}
-use Rattle.listing.proofs.values.put_three.Tie as tie
+use Rattle.listing.proofs.values.put_lengths.Statement.{statement}
+use Rattle.listing.proofs.values.put_lengths.Tie as tie
 
 returns : tie.Need-returns
 returns c =
@@ -14,13 +14,16 @@ returns c =
     put-then _ _ _ _ _ _ _ (put-then _ _ _ _ _ _ _ (put-u32 .ensures) (put-u322 .ensures) refl (omega arith))
     (put-u323 .ensures) refl (omega arith)
 
-pub put-three-spec : {M : Type 1} → statement M
-put-three-spec =
+pub put-lengths-spec : {M : Type 1} → statement M
+put-lengths-spec =
     tie.close
     (tie.spec
-    (λ c κs. search needs)
     (λ c. search needs)
     (λ c κs. search needs)
+    (λ c. search needs)
+    (λ c. search needs)
+    (λ c κs. search needs)
+    (λ c. search needs)
     (λ c. search needs)
     (λ c κs. search needs)
     (λ c. search needs)
