@@ -13,7 +13,8 @@ use Rattle.logix.specs.declared.entry.Outcome.{Outcome}
 use Rattle.logix.specs.declared.entry.Outcome.the-variants.{Reply, Refused}
 use Rattle.whole.specs.declared.Whole.{Whole}
 use Rattle.whole.specs.declared.Whole.the-variants as whole
-use Rattle.whole.specs.Whole.{received, wholeRead}
+use Rattle.whole.specs.Whole.{Received, received, wholeRead}
+use Rattle.whole.specs.Lists.{wholeList}
 use Rattle.ciplink.specs.Entries.{codeOf, ToldReply, wholeCode, ToldWhole}
 
 says-reply : (n : ℕ) (d : Defined) → Says (Reply n) d → n ≡ codeOf d
@@ -52,7 +53,17 @@ module _ (w : Whole) where
   pub whole-short : (n m : ℕ) → w ≡ whole.TooShort n → m ≡ n → 0x300000000 + m % 0x100000000 ≡ wholeCode w
   whole-short n m e k = rw (e, k)
 
-pub whole-told : (t : Tables) (g f : Flags) (q : g ≡ f) (memory path : List ℕ) (elements limit : ℕ) (buffer out after new : List ℕ) (w : Whole) (r : ℕ)
-    → received w new after ≡ wholeRead t g memory path elements limit buffer out → r ≡ wholeCode w
-    → ToldWhole (wholeRead t f memory path elements limit buffer out) r new after
-whole-told t g f q memory path elements limit buffer out after new w r e k = rw (← q, ← e) (record { code-is = k; out-is = refl; buffer-is = refl })
+module _ (t : Tables) (g f : Flags) (q : g ≡ f) (memory : List ℕ) where
+  told-whole : (asked : Flags → Received) (after new : List ℕ) (w : Whole) (r : ℕ) → received w new after ≡ asked g → r ≡ wholeCode w
+      → ToldWhole (asked f) r new after
+  told-whole asked after new w r e k = rw (← q, ← e) (record { code-is = k; out-is = refl; buffer-is = refl })
+
+  pub whole-told : (path : List ℕ) (elements limit : ℕ) (buffer out after new : List ℕ) (w : Whole) (r : ℕ)
+      → received w new after ≡ wholeRead t g memory path elements limit buffer out → r ≡ wholeCode w
+      → ToldWhole (wholeRead t f memory path elements limit buffer out) r new after
+  whole-told path elements limit buffer out = told-whole (λ x. wholeRead t x memory path elements limit buffer out)
+
+  pub list-told : (program attributes : List ℕ) (limit : ℕ) (buffer out after new : List ℕ) (w : Whole) (r : ℕ)
+      → received w new after ≡ wholeList t g memory program attributes limit buffer out → r ≡ wholeCode w
+      → ToldWhole (wholeList t f memory program attributes limit buffer out) r new after
+  list-told program attributes limit buffer out = told-whole (λ x. wholeList t x memory program attributes limit buffer out)

@@ -36,8 +36,8 @@ pub record ToldReply (e : Entered) (r : ℕ) (buffer memory : List ℕ) : Type 0
   pub buffer-is : buffer ≡ e .buffer
   pub memory-is : memory ≡ e .memory
 
--- the number of bytes joined, or why nothing was: 0x1_0000_0000 plus the refusal's number, 0x2_0000_0000 plus the general status, 0x3_0000_0000 plus
--- the bytes that `out` has to hold (65,536 at most), 0x4_0000_0000 for a limit that leaves no room, 0x5_0000_0000 for a path that no request carries
+-- the number of bytes joined, or why nothing was: 0x1_0000_0000 plus the refusal's number, 0x2_0000_0000 plus the general status and 256 times the
+-- extended word, 0x3_0000_0000 plus the bytes that `out` has to hold, 0x4_0000_0000 for a limit that leaves no room, 0x5_0000_0000 for what no request carries
 abbrev pub wholeCode : Whole → ℕ
 wholeCode (Joined n) = n
 wholeCode (Refused number) = 0x100000000 + number

@@ -19,6 +19,7 @@ ghost use Rattle.model.specs.Tables.{tablesOf, flagsOf};
 ghost use Rattle.services.specs.Answers.{Answers};
 ghost use Rattle.logix.specs.Entering.{numberOf};
 ghost use Rattle.whole.specs.Whole.{wholeRead};
+ghost use Rattle.whole.specs.Lists.{wholeList};
 ghost use Rattle.tables.specs.Rules.{toldOf};
 ghost use Rattle.ciplink.specs.Entries.{flagsIn, ToldReply, wholeCode, ToldWhole, toldWords};
 
@@ -57,7 +58,7 @@ const TOO_NARROW: u64 = 0x4_0000_0000;
 
 const UNSENDABLE: u64 = 0x5_0000_0000;
 
-/// A whole read's result in 64 bits.
+/// What a whole read or a whole list comes to, in 64 bits.
 fn whole_code(w: Whole) -> u64
     ensures { λ r. ⌜ r ≡ wholeCode w ⌝ }
 {
@@ -274,6 +275,49 @@ pub extern "C" fn ciplink_read_whole(
         memory,
         path,
         elements,
+        limit,
+        buf,
+        out,
+    ))
+}
+
+/// Lists all symbols of a scope into `out`: the number of bytes joined, or why nothing was (ciplink.h has the numbers).
+#[no_mangle]
+pub extern "C" fn ciplink_list_whole(
+    structures: &[[u32; 10]],
+    members: &[[u32; 9]],
+    programs: &[[u32; 2]],
+    tags: &[[u32; 12]],
+    others: &[[u32; 5]],
+    names: &[u8],
+    tag_names: &[u8],
+    templates: &[u8],
+    flags: u32,
+    memory: &mut [u8],
+    program: &[u8],
+    attributes: &[u8],
+    limit: usize,
+    buf: &mut [u8],
+    out: &mut [u8],
+) -> u64
+    ensures { λ r. let t = tablesOf (now (structures .entry)) (now (members .entry)) (now (programs .entry)) (now (tags .entry))
+        (now (others .entry)) (now (names .entry)) (now («tag_names» .entry)) (now (templates .entry)) in
+        ⌜ ToldWhole (wholeList t (flagsIn flags) (now (memory .entry)) (now (program .entry)) (now (attributes .entry)) limit (now (buf .entry))
+        (now (out .entry))) r (now (out .exit)) (now (buf .exit)) × (now (memory .exit) ≡ now (memory .entry)) ⌝ }
+{
+    whole_code(whole::lists::list_whole(
+        structures,
+        members,
+        programs,
+        tags,
+        others,
+        names,
+        tag_names,
+        templates,
+        flags_of(flags),
+        memory,
+        program,
+        attributes,
         limit,
         buf,
         out,

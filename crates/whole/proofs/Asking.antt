@@ -15,7 +15,6 @@ use Rattle.laws.specs.Put.{put, laid}
 use Rattle.laws.specs.Tests.{every}
 use Rattle.laws.proofs.Chain.{by-test, clash}
 use Rattle.laws.proofs.Put.{put-then, put-none, take-put}
-use Rattle.laws.proofs.Parts.{laid-byte}
 use Rattle.laws.proofs.Tests.{both-true}
 use Rattle.definition.specs.Bytes.{le32, u32At, counted}
 use Rattle.definition.specs.Reply.{Answer, answered, reply, room}
@@ -25,12 +24,13 @@ use Rattle.definition.specs.Lookup.{programOf}
 use Rattle.definition.specs.Page.{pageReply}
 use Rattle.definition.specs.Symbols.{isListed, due, startOf, pageStart, listSymbols}
 use Rattle.definition.specs.Answer.{byService, answer}
-use Rattle.definition.proofs.Replies.{proper-answer}
 use Rattle.cip.specs.Writes.{Written}
 use Rattle.path.proofs.Segments.{segments-end, segments-next}
 use Rattle.continued.specs.Point3.{Encodes}
 use Rattle.continued.proofs.Requests.{u32-le32, to-service}
 use Rattle.services.specs.Answers.{Answers}
+use Rattle.whole.specs.Whole.{statusIn}
+use Rattle.whole.proofs.Statuses.{laid-status}
 use Rattle.whole.specs.Lists.{scopeNamed, scopeOf, namePath, scopePath, listPath, listRequest, isAskable}
 
 -- ---- the bytes
@@ -249,8 +249,7 @@ module _ (t : Tables) (f : Flags) (m program attributes : List ℕ) (id limit : 
 
   -- the status, and the reply in the buffer
   pub list-status : (n : ℕ) (old new left : List ℕ) → Answers limit (answer t f m (listRequest program attributes id) limit) old n new left
-      → (getD new 2 0 ≡ getD (answer t f m (listRequest program attributes id) limit .reply) 2 0) × (left ≡ m)
+      → (statusIn new ≡ statusIn (answer t f m (listRequest program attributes id) limit .reply)) × (left ≡ m)
       × (new ≡ laid (room limit) old (answer t f m (listRequest program attributes id) limit .reply))
   list-status n old new left r =
-      let long = proper-answer t f m (listRequest program attributes id) limit .headed .long in
-      (laid-byte (room limit) old _ new (r .buffer-is) 2 (omega (arith, long)), r .memory-is ∙ list-keeps, r .buffer-is)
+      (laid-status (room limit) old _ new (omega arith) (r .buffer-is), r .memory-is ∙ list-keeps, r .buffer-is)

@@ -6,7 +6,7 @@ use mathlib.Core.List.{List}
 use mathlib.Core.Option.{Option, none, some}
 use Prim.Native.Nat.{ℕ, _+_, _≤_, _<_}
 use native.Mathlib.Omega.{arith}
-use lib.ListN.{length, getD}
+use lib.ListN.{length}
 use borrow.Author.Tests.{lt-ltb, le-ltb}
 use Rattle.laws.specs.Put.{laid}
 use Rattle.laws.proofs.Chain.{clash}
@@ -24,7 +24,7 @@ use Rattle.reads.proofs.Reading.{ask-by}
 use Rattle.whole.specs.declared.Whole.the-variants.{Joined, TooShort, TooNarrow, Turned}
 use Rattle.whole.specs.declared.sizes.Size.{Size}
 use Rattle.whole.specs.declared.sizes.Size.the-variants.{Of, Nothing}
-use Rattle.whole.specs.Whole.{chosen, Received, received, firstReply, wholeOf, wholeRead}
+use Rattle.whole.specs.Whole.{chosen, Received, received, statusIn, firstReply, wholeOf, wholeRead}
 use Rattle.whole.specs.Parts.{sizedOf, chosenBytes, lastOf, Sendable, Joinable}
 use Rattle.whole.proofs.Sending.{readable}
 
@@ -73,7 +73,7 @@ module _ (memory : List ℕ) (o : Option Selection) (first : List ℕ) (limit : 
   abbrev whole : Received
   whole = wholeOf o first memory limit buffer out
 
-  pub whole-turned : (x : ℕ) (new : List ℕ) → v ≡ Nothing → x ≡ getD first 2 0 → new ≡ laid (room limit) buffer first → received (Turned x) out new ≡ whole
+  pub whole-turned : (x : ℕ) (new : List ℕ) → v ≡ Nothing → x ≡ statusIn first → new ≡ laid (room limit) buffer first → received (Turned x) out new ≡ whole
   unfolding sizedOf wholeOf
   whole-turned x new e k l = go o (sym sized ∙ e)
     where

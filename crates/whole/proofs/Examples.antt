@@ -9,7 +9,7 @@ use Rattle.definition.specs.Pallet.{pallet, palletFlags, upFrom, palletMemory, 
 use Rattle.definition.specs.Computed.{compute}
 use Rattle.continued.specs.Point3.{readRequest}
 use Rattle.whole.specs.declared.Whole.the-variants.{Joined, TooShort, TooNarrow, Turned, Refused, Unsendable}
-use Rattle.whole.specs.Whole.{chosen, Received, received, wholeOf, wholeRead}
+use Rattle.whole.specs.Whole.{chosen, Received, received, wordIn, statusIn, wholeOf, wholeRead}
 use Rattle.whole.specs.Lists.{scopeOf, entriesOf, scopePath, listPath, listRequest, longest, wholeOfList, wholeList}
 
 -- a path and an element count; the limit, the reply buffer's length, and the lent buffer's
@@ -44,7 +44,7 @@ expected =
     ∷ received (Joined 1) (1 ∷ []) ((0xD2 ∷ 0 ∷ 0 ∷ 0 ∷ 0xC1 ∷ 0 ∷ 1 ∷ []) ++ replicate 93 0)
     ∷ received (TooShort 40) (unjoined 39) (unsent 22)
     ∷ received TooNarrow (unjoined 40) (unsent 8)
-    ∷ received (Turned 0xFF) (unjoined 40) ((0xD2 ∷ 0 ∷ 0xFF ∷ 1 ∷ 0x05 ∷ 0x21 ∷ []) ++ replicate 16 0)
+    ∷ received (Turned 0x2105FF) (unjoined 40) ((0xD2 ∷ 0 ∷ 0xFF ∷ 1 ∷ 0x05 ∷ 0x21 ∷ []) ++ replicate 16 0)
     ∷ received (Turned 0x05) (unjoined 40) ((0xD2 ∷ 0 ∷ 0x05 ∷ 0 ∷ []) ++ replicate 18 0)
     ∷ received (Refused 2) (unjoined 40) (unsent 22)
     ∷ received (Refused 3) (unjoined 40) (unsent 21)
@@ -52,7 +52,7 @@ expected =
     ∷ []
 
 whole-reads : outcomes ≡ expected
-unfolding outcomes expected compute pallet palletFlags palletMemory palletStart upFrom readRequest until chosen wholeOf wholeRead
+unfolding outcomes expected compute pallet palletFlags palletMemory palletStart upFrom readRequest until chosen wordIn statusIn wholeOf wholeRead
 whole-reads = refl
 
 -- ---- whole lists: IDs and types of the bench's three symbols, of which the last has the highest ID that there is
@@ -99,5 +99,5 @@ lists-expected =
     ∷ []
 
 whole-lists : list-outcomes ≡ lists-expected
-unfolding list-outcomes lists-expected compute pallet palletFlags palletMemory palletStart upFrom scopeOf entriesOf scopePath listPath listRequest longest until wholeOfList wholeList
+unfolding list-outcomes lists-expected compute pallet palletFlags palletMemory palletStart upFrom scopeOf entriesOf scopePath listPath listRequest longest until wordIn statusIn wholeOfList wholeList
 whole-lists = refl

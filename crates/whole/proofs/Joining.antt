@@ -27,7 +27,8 @@ use Rattle.continued.proofs.Point3.{selected-few}
 use Rattle.whole.specs.declared.joins.Turn.{Turn}
 use Rattle.whole.specs.declared.joins.Turn.the-variants.{Last, More}
 use Rattle.services.specs.Answers.{Answers}
-use Rattle.whole.specs.Whole.{chosen, lastChunk, firstReply}
+use Rattle.whole.specs.Whole.{chosen, lastChunk, firstReply, statusIn}
+use Rattle.whole.proofs.Statuses.{laid-status}
 use Rattle.whole.specs.Parts.{chosenBytes, lastOf, Sendable, Joinable, Brings}
 use Rattle.whole.proofs.Sending.{read-keeps, readable, selected-answer}
 
@@ -172,10 +173,9 @@ module _ {t : Tables} {f : Flags} {m path : List ℕ} {elements limit header got
 -- the status of any read, and its reply in the buffer
 pub status-first : (t : Tables) (f : Flags) (m path : List ℕ) (elements limit n : ℕ) (old new left : List ℕ)
     → Answers limit (answer t f m (readRequest path elements 0) limit) old n new left
-    → (getD new 2 0 ≡ getD (firstReply t f m path elements limit) 2 0) × (left ≡ m) × (new ≡ laid (room limit) old (firstReply t f m path elements limit))
+    → (statusIn new ≡ statusIn (firstReply t f m path elements limit)) × (left ≡ m) × (new ≡ laid (room limit) old (firstReply t f m path elements limit))
 status-first t f m path elements limit n old new left r =
-    let long = proper-answer t f m (readRequest path elements 0) limit .headed .long in
-    (laid-byte (room limit) old _ new (r .buffer-is) 2 (omega (arith, long)), r .memory-is ∙ read-keeps t f m limit path elements 0, r .buffer-is)
+    (laid-status (room limit) old _ new (omega arith) (r .buffer-is), r .memory-is ∙ read-keeps t f m limit path elements 0, r .buffer-is)
 
 -- ---- the last chunk: one reply more, and the last one
 

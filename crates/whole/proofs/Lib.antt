@@ -1,3 +1,4 @@
+pub mod Statuses
 pub mod Sending
 pub mod Joining
 pub mod Sizing

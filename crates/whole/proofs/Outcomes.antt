@@ -7,7 +7,7 @@ use mathlib.Core.Option.{Option, none, some}
 use Prim.Native.Nat.{ℕ, suc, _+_, _*_, _≤_, _<_}
 use native.Mathlib.Omega.{arith}
 use lib.Dec.{leb}
-use lib.ListN.{length, getD, drop}
+use lib.ListN.{length, drop}
 use borrow.Author.Tests.{leb-true, lt-ltb, le-ltb, eq-eqb, ne-eqb}
 use Rattle.laws.specs.Put.{laid}
 use Rattle.laws.specs.Tests.{every}
@@ -35,7 +35,7 @@ use Rattle.whole.specs.declared.lists.Asked.{Asked}
 use Rattle.whole.specs.declared.lists.Asked.the-variants as asked
 use Rattle.whole.specs.declared.walks.Measure.{Measure}
 use Rattle.whole.specs.declared.walks.Measure.the-variants.{Total, Narrow}
-use Rattle.whole.specs.Whole.{Received, received}
+use Rattle.whole.specs.Whole.{Received, received, statusIn}
 use Rattle.whole.specs.Lists.{scopeNamed, scopeOf, entriesIn, entriesOf, firstPage, longest, lastPage, wholeOfList, wholeList}
 use Rattle.whole.specs.Turns.{inScope, scopeBy, acceptedBy, acceptedIn, askedBy, Askable, Granted, Measured}
 
@@ -180,7 +180,7 @@ few-scopes t memory v = omega (arith, leb-true (length (t .programs)) 16 (among 
 
 -- ---- what it comes to
 
-pub list-turned : {o : Option (List Entry)} {x : ℕ} (first : List ℕ) (limit : ℕ) {new : List ℕ} (old out : List ℕ) → o ≡ none → x ≡ getD first 2 0
+pub list-turned : {o : Option (List Entry)} {x : ℕ} (first : List ℕ) (limit : ℕ) {new : List ℕ} (old out : List ℕ) → o ≡ none → x ≡ statusIn first
     → new ≡ laid (room limit) old first → received (Turned x) out new ≡ wholeOfList o first limit old out
 unfolding wholeOfList
 list-turned first limit old out e k b = rw (e, k, b) refl

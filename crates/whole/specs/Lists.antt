@@ -5,7 +5,7 @@ use mathlib.Core.List.{List, [], _∷_, _++_}
 use mathlib.Core.Option.{Option, none, some}
 use Prim.Native.Nat.{ℕ, suc, _+_, _-_, _/_, _%_, max}
 use lib.Dec.{ltb, leb, eqb}
-use lib.ListN.{length, getD, drop}
+use lib.ListN.{length, drop}
 use Rattle.laws.specs.Pick.{pick, both}
 use Rattle.laws.specs.Put.{put, laid}
 use Rattle.laws.specs.Tests.{every}
@@ -19,7 +19,7 @@ use Rattle.definition.specs.Page.{Entry, bytesOf, fitting, pageReply}
 use Rattle.definition.specs.Symbols.{isListed, due}
 use Rattle.definition.specs.Answer.{answer}
 use Rattle.whole.specs.declared.Whole.the-variants.{Joined, TooShort, TooNarrow, Turned, Refused, Unsendable}
-use Rattle.whole.specs.Whole.{Received, received}
+use Rattle.whole.specs.Whole.{Received, received, statusIn}
 
 -- ---- what is asked for
 
@@ -79,9 +79,9 @@ behind limit entries = drop (fitting (limit - 4) entries) entries
 abbrev pub lastPage : (limit : ℕ) → List Entry → List Entry
 lastPage limit entries = until (λ es. eqb (fitting (limit - 4) es) (length es)) (behind limit) (length entries) entries
 
--- `first`: the reply to a page from ID 0 on, the only one where no page is granted; its third byte is the general status
+-- `first`: the reply to a page from ID 0 on, the only one where no page is granted
 unfoldable pub wholeOfList : Option (List Entry) → (first : List ℕ) (limit : ℕ) (buffer out : List ℕ) → Received
-wholeOfList none first limit buffer out = received (Turned (getD first 2 0)) out (laid (room limit) buffer first)
+wholeOfList none first limit buffer out = received (Turned (statusIn first)) out (laid (room limit) buffer first)
 wholeOfList (some entries) first limit buffer out =
     let bytes = bytesOf entries in
     pick (ltb limit (4 + longest entries)) (received TooNarrow out buffer)

@@ -3,12 +3,13 @@
 use mathlib.Core.Bool.{Bool, false, not}
 use mathlib.Core.List.{List}
 use mathlib.Core.Option.{Option, none, some}
-use Prim.Native.Nat.{ℕ, _+_, _/_, _%_}
+use Prim.Native.Nat.{ℕ, _+_, _*_, _/_, _%_}
 use lib.Dec.{ltb, leb, eqb}
 use lib.ListN.{length, getD, drop}
 use Rattle.laws.specs.Pick.{pick, both}
 use Rattle.laws.specs.Put.{put, laid}
 use Rattle.laws.specs.Until.{until}
+use Rattle.definition.specs.Bytes.{u16At}
 use Rattle.definition.specs.Reply.{room}
 use Rattle.definition.specs.Segment.{Segment, segments}
 use Rattle.definition.specs.Request.{isTagPath}
@@ -58,9 +59,17 @@ lastChunk s chunk = until (λ c. leb (length c) s) (drop (rounded s)) (length ch
 abbrev pub lastReply : Selection → (memory : List ℕ) (limit : ℕ) → List ℕ
 lastReply s memory limit = fragmentReply 0x52 (s .header) (lastChunk (space (length (s .header)) limit) (selectedBytes s memory)) limit
 
--- `first`: the reply to the read from the start, the only one where nothing is selected; its third byte is the general status
+-- the extended word of a reply: behind the third byte, the general status, stands the number of words
+unfoldable pub wordIn : (reply : List ℕ) → ℕ
+wordIn reply = pick (eqb (getD reply 3 0) 0) 0 (u16At reply 4)
+
+-- the general status, plus 256 times the extended word, 0 where there is none
+unfoldable pub statusIn : (reply : List ℕ) → ℕ
+statusIn reply = getD reply 2 0 + 256 * wordIn reply
+
+-- `first`: the reply to the read from the start, the only one where nothing is selected
 unfoldable pub wholeOf : Option Selection → (first memory : List ℕ) (limit : ℕ) (buffer out : List ℕ) → Received
-wholeOf none first memory limit buffer out = received (Turned (getD first 2 0)) out (laid (room limit) buffer first)
+wholeOf none first memory limit buffer out = received (Turned (statusIn first)) out (laid (room limit) buffer first)
 wholeOf (some s) first memory limit buffer out =
     let bytes = selectedBytes s memory in
     pick (ltb limit (5 + length (s .header))) (received TooNarrow out buffer)

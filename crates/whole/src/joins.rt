@@ -2,7 +2,7 @@
 use model::Flags;
 ghost use mathlib.Core.Path.{_≡_};
 ghost use Prim.Native.Nat.{_<_};
-ghost use lib.ListN.{length, getD};
+ghost use lib.ListN.{length};
 ghost use Rattle.laws.specs.Put.{laid};
 ghost use Rattle.definition.specs.Reply.{room};
 ghost use Rattle.definition.specs.Fragment.{space};
@@ -10,7 +10,7 @@ ghost use Rattle.definition.specs.Answer.{answer};
 ghost use Rattle.cip.specs.Writes.{Written};
 ghost use Rattle.continued.specs.Point3.{readRequest};
 ghost use Rattle.model.specs.Tables.{tablesOf, flagsOf};
-ghost use Rattle.whole.specs.Whole.{chosen, firstReply};
+ghost use Rattle.whole.specs.Whole.{chosen, firstReply, statusIn};
 ghost use Rattle.whole.specs.Parts.{chosenBytes, lastOf, Sendable, Joinable, Brings};
 
 /// How many bytes are received after a reply, and whether more are due.
@@ -19,7 +19,7 @@ pub enum Turn {
     More(usize),
 }
 
-/// The general status of a reply to a read from the start; the reply stays in `buf`.
+/// The status of a reply to a read from the start, with its extended word; the reply stays in `buf`.
 pub fn first_status(
     structures: &[[u32; 10]],
     members: &[[u32; 9]],
@@ -35,13 +35,13 @@ pub fn first_status(
     elements: u16,
     limit: usize,
     buf: &mut [u8],
-) -> u8
+) -> u32
     requires { let t = tablesOf (now structures) (now members) (now programs) (now tags) (now others) (now names) (now «tag_names») (now templates) in
         ⌜ Sendable t (now memory) (now path) limit (length (now buf)) ⌝ }
     ensures { λ r. let t = tablesOf (now (structures .entry)) (now (members .entry)) (now (programs .entry)) (now (tags .entry))
         (now (others .entry)) (now (names .entry)) (now («tag_names» .entry)) (now (templates .entry)) in
         let first = firstReply t (flagsOf flags) (now (memory .entry)) (now (path .entry)) elements limit in
-        ⌜ (r ≡ getD first 2 0) × (now (memory .exit) ≡ now (memory .entry)) × (now (buf .exit) ≡ laid (room limit) (now (buf .entry)) first) ⌝ }
+        ⌜ (r ≡ statusIn first) × (now (memory .exit) ≡ now (memory .entry)) × (now (buf .exit) ≡ laid (room limit) (now (buf .entry)) first) ⌝ }
 {
     crate::requests::send_read(
         structures,
@@ -60,7 +60,7 @@ pub fn first_status(
         limit,
         buf,
     );
-    buf[2]
+    crate::requests::status_in(buf)
 }
 
 /// Sends the read at the number of bytes received, and joins what the reply brings.

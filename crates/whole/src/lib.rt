@@ -23,8 +23,9 @@ pub enum Whole {
     TooShort(usize),
     /// The limit leaves no room behind the header for a byte, or for the longest entry: nothing was joined.
     TooNarrow,
-    /// The controller turns the first request away with this general status: nothing was joined.
-    Turned(u8),
+    /// The controller turns the first request away: nothing was joined. The general status, plus 256 times the extended word, 0 where
+    /// there is none.
+    Turned(u32),
     /// An entry refusal by its number (2: limit, 3: reply buffer, 4: tables).
     Refused(u32),
     /// A path of an odd number of bytes or of more than 255 words; a program's name of more than 255 bytes, or a list of attributes of

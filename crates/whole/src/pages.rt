@@ -7,7 +7,7 @@ use model::Flags;
 ghost use mathlib.Core.Path.{_≡_};
 ghost use mathlib.Core.Bool.{true};
 ghost use Prim.Native.Nat.{_+_, _≤_};
-ghost use lib.ListN.{length, drop, getD};
+ghost use lib.ListN.{length, drop};
 ghost use Rattle.laws.specs.Put.{put, laid};
 ghost use Rattle.definition.specs.Bytes.{numbers};
 ghost use Rattle.definition.specs.Reply.{room};
@@ -17,6 +17,7 @@ ghost use Rattle.definition.specs.Answer.{answer};
 ghost use Rattle.cip.specs.Writes.{Written};
 ghost use Rattle.model.specs.Tables.{tablesOf, flagsOf};
 ghost use Rattle.services.specs.Answers.{Answers};
+ghost use Rattle.whole.specs.Whole.{statusIn};
 ghost use Rattle.whole.specs.Lists.{scopePath, listRequest, isAskable, firstPage, longest, lastPage};
 ghost use Rattle.whole.specs.Turns.{Askable, Granted, Page};
 
@@ -123,7 +124,7 @@ fn send_list(
     )
 }
 
-/// The general status of a page from ID 0 on; the reply stays in `buf`.
+/// The status of a page from ID 0 on, with its extended word; the reply stays in `buf`.
 pub fn first_page(
     structures: &[[u32; 10]],
     members: &[[u32; 9]],
@@ -139,13 +140,13 @@ pub fn first_page(
     attributes: &[u8],
     limit: usize,
     buf: &mut [u8],
-) -> u8
+) -> u32
     requires { let t = tablesOf (now structures) (now members) (now programs) (now tags) (now others) (now names) (now «tag_names») (now templates) in
         ⌜ Askable t (now memory) (now program) (now attributes) limit (length (now buf)) ⌝ }
     ensures { λ r. let t = tablesOf (now (structures .entry)) (now (members .entry)) (now (programs .entry)) (now (tags .entry))
         (now (others .entry)) (now (names .entry)) (now («tag_names» .entry)) (now (templates .entry)) in
         let first = firstPage t (flagsOf flags) (now (memory .entry)) (now (program .entry)) (now (attributes .entry)) limit in
-        ⌜ (r ≡ getD first 2 0) × (now (memory .exit) ≡ now (memory .entry)) × (now (buf .exit) ≡ laid (room limit) (now (buf .entry)) first) ⌝ }
+        ⌜ (r ≡ statusIn first) × (now (memory .exit) ≡ now (memory .entry)) × (now (buf .exit) ≡ laid (room limit) (now (buf .entry)) first) ⌝ }
 {
     send_list(
         structures,
@@ -164,7 +165,7 @@ pub fn first_page(
         limit,
         buf,
     );
-    buf[2]
+    crate::requests::status_in(buf)
 }
 
 /// Asks for a page, and joins the entries that it brings.

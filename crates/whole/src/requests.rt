@@ -1,16 +1,16 @@
-// A read's request, and its way to the dispatcher.
+// A read's request, its way to the dispatcher, and the status of a reply.
 use cip::codes::READ_FRAGMENTED;
 use model::Flags;
 ghost use mathlib.Core.Path.{_≡_};
 ghost use mathlib.Core.Bool.{true};
-ghost use Prim.Native.Nat.{_+_, _≤_};
+ghost use Prim.Native.Nat.{_+_, _*_, _≤_};
 ghost use lib.ListN.{length};
 ghost use Rattle.definition.specs.Answer.{answer};
 ghost use Rattle.cip.specs.Writes.{Written};
 ghost use Rattle.continued.specs.Point3.{readRequest};
 ghost use Rattle.model.specs.Tables.{tablesOf, flagsOf};
 ghost use Rattle.services.specs.Answers.{Answers};
-ghost use Rattle.whole.specs.Whole.{isSendable};
+ghost use Rattle.whole.specs.Whole.{isSendable, statusIn, wordIn};
 ghost use Rattle.whole.specs.Parts.{Sendable};
 
 /// Whether a request can carry a path: whole words, at most 255 of them.
@@ -78,4 +78,30 @@ pub fn send_read(
         limit,
         buf,
     )
+}
+
+/// The extended word of a reply, 0 where it has none.
+fn word_in(reply: &[u8]) -> u16
+    requires { ⌜ 8 ≤ length (now reply) ⌝ }
+    ensures { λ r. ⌜ r ≡ wordIn (now (reply .entry)) ⌝ }
+{
+    if reply[3] == 0 {
+        return 0;
+    }
+    cip::u16_at(reply, 4)
+}
+
+/// A general status, plus 256 times an extended word.
+fn joined(general: u8, word: u16) -> u32
+    ensures { λ r. ⌜ r ≡ general + 256 * word ⌝ }
+{
+    general as u32 + 256 * (word as u32)
+}
+
+/// The general status of a reply, plus 256 times its extended word.
+pub fn status_in(reply: &[u8]) -> u32
+    requires { ⌜ 8 ≤ length (now reply) ⌝ }
+    ensures { λ r. ⌜ r ≡ statusIn (now (reply .entry)) ⌝ }
+{
+    joined(reply[2], word_in(reply))
 }
