@@ -2,3 +2,4 @@ pub mod Rows
 pub mod Text
 pub mod Parsing
 pub mod Worked
+pub mod Choosing

@@ -1,3 +1,4 @@
 pub mod Rows
 pub mod Text
 pub mod Lines
+pub mod Options
