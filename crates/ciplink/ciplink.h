@@ -2,7 +2,11 @@
  *
  * Link target/staticlib/libciplink.a, which `rt staticlib ciplink` writes (x86-64 Linux). The functions keep nothing between
  * two calls, allocate nothing and may run in several threads at once, each on tag memory and a reply buffer of its own.
- * A call that judges tables (every one but ciplink_answer) takes about 50 KB of stack.
+ *
+ * The stack that a call takes, in KiB, measured by oracle/stack with the largest tables and rounded up:
+ *   ciplink_answer                                                          4
+ *   ciplink_valid, ciplink_breach, ciplink_message, ciplink_read_whole     48
+ *   ciplink_list_whole (a page that it measures stands on its stack)      112
  *
  * A table passes as a pointer to its rows and their number, a store of bytes as a pointer and its length. No pointer may be
  * NULL, not even one to nothing. Tag memory and the reply buffer overlap nothing else that is passed, nor each other, and
@@ -12,6 +16,9 @@
 
 #include <stddef.h>
 #include <stdint.h>
+
+#define CIPLINK_VERSION "1.0.0"
+#define CIPLINK_VERSION_NUMBER 0x010000 /* major, minor and patch, a byte each */
 
 #ifdef __cplusplus
 extern "C" {
@@ -85,7 +92,7 @@ typedef struct { /* a symbol that is no tag: a program, routine or task; at most
       size_t names_length, const uint8_t *tag_names, size_t tag_names_length, const uint8_t *templates,   \
       size_t templates_length
 
-/* Flags; CIPLINK_MICRO800 turns the first two off. Other bits are to be 0. */
+/* Flags; CIPLINK_MICRO800 turns the first two off. Other bits are ignored. */
 #define CIPLINK_MULTI_SERVICE 1u      /* envelopes of several messages are answered */
 #define CIPLINK_INSTANCE_IDS 2u       /* tags are found by their instance ID too */
 #define CIPLINK_AOI_LOCALS_REFUSED 4u /* locals are not found, and an AOI that has some is neither read nor written whole */
@@ -181,11 +188,18 @@ uint64_t ciplink_message(CIPLINK_TABLES, uint32_t flags, uint8_t *memory, size_t
 uint64_t ciplink_answer(CIPLINK_TABLES, uint32_t flags, uint8_t *memory, size_t memory_length, const uint8_t *request,
                         size_t request_length, size_t limit, uint8_t *reply, size_t reply_length);
 
-/* What a whole read comes to: below CIPLINK_REFUSED the number of bytes joined, else why nothing was. */
-#define CIPLINK_TURNED UINT64_C(0x200000000)     /* plus the general status that the read is turned away with */
+/* What a whole read or a whole list comes to: below CIPLINK_REFUSED the number of bytes joined, else why nothing was. */
+#define CIPLINK_TURNED UINT64_C(0x200000000)     /* plus the status of the reply that turns the first request away: bits 0 to 7 the
+                                                    general one, bits 8 to 23 the extended word, 0 where there is none */
 #define CIPLINK_TOO_SHORT UINT64_C(0x300000000)  /* plus the number of bytes that `out` has to hold */
-#define CIPLINK_TOO_NARROW UINT64_C(0x400000000) /* the limit is below 5 plus the type header (2 bytes, 4 for a structure) */
-#define CIPLINK_UNSENDABLE UINT64_C(0x500000000) /* the path has an odd number of bytes, or more than 510 */
+#define CIPLINK_TOO_NARROW UINT64_C(0x400000000) /* the limit is below 5 plus the type header (2 bytes, 4 for a structure); of a
+                                                    list, below 4 plus the longest entry */
+#define CIPLINK_UNSENDABLE UINT64_C(0x500000000) /* the path has an odd number of bytes, or more than 510; the program's name
+                                                    more than 255 bytes, or the attributes more than 1,024 */
+
+/* Of an outcome from CIPLINK_TURNED on and below CIPLINK_TOO_SHORT. */
+static inline uint8_t ciplink_general_status(uint64_t turned) { return (uint8_t)turned; }
+static inline uint16_t ciplink_extended_word(uint64_t turned) { return (uint16_t)(turned >> 8); }
 
 /* A continued read done whole: sends reads of `elements` elements (0x52) of a path, each at the number of bytes received, and
  * joins their data in `out` until status 0: the joined bytes are the selected ones. Tag memory stays as it is. Judges all of its
@@ -199,6 +213,80 @@ uint64_t ciplink_answer(CIPLINK_TABLES, uint32_t flags, uint8_t *memory, size_t 
 uint64_t ciplink_read_whole(CIPLINK_TABLES, uint32_t flags, uint8_t *memory, size_t memory_length, const uint8_t *path,
                             size_t path_length, uint16_t elements, size_t limit, uint8_t *reply, size_t reply_length,
                             uint8_t *out, size_t out_length);
+
+/* The symbols of a scope listed whole: asks for pages (0x55), each from the last listed ID plus one, and joins their entries in
+ * `out` until status 0: those of all symbols of the scope, ascending by ID. `program` is a program's symbol name (`Program:Main`),
+ * or empty for the controller's scope. `attributes` is the request's data: a count of 16 bits, and as many numbers of attributes.
+ * Tag memory stays as it is. Judges all of its arguments anew, in the order of ciplink_read_whole: CIPLINK_UNSENDABLE, the limit,
+ * the reply buffer, the tables, a page that is turned away, a limit that is too narrow, `out` too short. What `out` and `reply`
+ * hold afterwards is as there. */
+uint64_t ciplink_list_whole(CIPLINK_TABLES, uint32_t flags, uint8_t *memory, size_t memory_length, const uint8_t *program,
+                            size_t program_length, const uint8_t *attributes, size_t attributes_length, size_t limit,
+                            uint8_t *reply, size_t reply_length, uint8_t *out, size_t out_length);
+
+/* ---- one pointer for all tables
+ *
+ * A host that keeps its tables in one place passes a pointer to this. The wrappers call the functions above, whose promises and
+ * demands are theirs too: no pointer in it is NULL, not even one to nothing. */
+typedef struct {
+  const ciplink_structure *structures;
+  size_t structure_count;
+  const ciplink_member *members;
+  size_t member_count;
+  const ciplink_program *programs;
+  size_t program_count;
+  const ciplink_tag *tags;
+  size_t tag_count;
+  const ciplink_other *others;
+  size_t other_count;
+  const uint8_t *names;
+  size_t names_length;
+  const uint8_t *tag_names;
+  size_t tag_names_length;
+  const uint8_t *templates;
+  size_t templates_length;
+  uint32_t flags;
+  uint8_t *memory;
+  size_t memory_length;
+} ciplink_tables;
+
+#define CIPLINK_TABLES_OF(t)                                                                                              \
+  (t)->structures, (t)->structure_count, (t)->members, (t)->member_count, (t)->programs, (t)->program_count, (t)->tags,   \
+      (t)->tag_count, (t)->others, (t)->other_count, (t)->names, (t)->names_length, (t)->tag_names, (t)->tag_names_length, \
+      (t)->templates, (t)->templates_length
+
+static inline uint32_t ciplink_t_valid(const ciplink_tables *t) {
+  return ciplink_valid(CIPLINK_TABLES_OF(t), t->memory, t->memory_length);
+}
+
+static inline uint64_t ciplink_t_breach(const ciplink_tables *t, ciplink_told *told) {
+  return ciplink_breach(CIPLINK_TABLES_OF(t), t->memory, t->memory_length, told);
+}
+
+static inline uint64_t ciplink_t_message(const ciplink_tables *t, const uint8_t *request, size_t request_length, size_t limit,
+                                         uint8_t *reply, size_t reply_length) {
+  return ciplink_message(CIPLINK_TABLES_OF(t), t->flags, t->memory, t->memory_length, request, request_length, limit, reply,
+                         reply_length);
+}
+
+static inline uint64_t ciplink_t_answer(const ciplink_tables *t, const uint8_t *request, size_t request_length, size_t limit,
+                                        uint8_t *reply, size_t reply_length) {
+  return ciplink_answer(CIPLINK_TABLES_OF(t), t->flags, t->memory, t->memory_length, request, request_length, limit, reply,
+                        reply_length);
+}
+
+static inline uint64_t ciplink_t_read_whole(const ciplink_tables *t, const uint8_t *path, size_t path_length, uint16_t elements,
+                                            size_t limit, uint8_t *reply, size_t reply_length, uint8_t *out, size_t out_length) {
+  return ciplink_read_whole(CIPLINK_TABLES_OF(t), t->flags, t->memory, t->memory_length, path, path_length, elements, limit,
+                            reply, reply_length, out, out_length);
+}
+
+static inline uint64_t ciplink_t_list_whole(const ciplink_tables *t, const uint8_t *program, size_t program_length,
+                                            const uint8_t *attributes, size_t attributes_length, size_t limit, uint8_t *reply,
+                                            size_t reply_length, uint8_t *out, size_t out_length) {
+  return ciplink_list_whole(CIPLINK_TABLES_OF(t), t->flags, t->memory, t->memory_length, program, program_length, attributes,
+                            attributes_length, limit, reply, reply_length, out, out_length);
+}
 
 #ifdef __cplusplus
 }
