@@ -44,8 +44,12 @@ ciplink-message-point-3 t flags = (program-point-3 t (flagsIn flags) (ByCiplinkM
 
     total : Total (ByCiplinkMessage t flags)
     total s m =
-        let e = respond t (flagsIn flags) s m in
-        (toldBy (codeOf (e .outcome)) (e .buffer), e .buffer, e .memory, (codeOf (e .outcome), refl, record { code-is = refl; buffer-is = refl; memory-is = refl }))
+        let e = respond t (flagsIn flags) s m in (
+          toldBy (codeOf (e .outcome)) (e .buffer),
+          e .buffer,
+          e .memory,
+          (codeOf (e .outcome), refl, record { code-is = refl; buffer-is = refl; memory-is = refl }),
+        )
 
 pub ciplink-answer-point-3 : Ciplink-answer-point-3
 ciplink-answer-point-3 t flags = answer-point-3 t (flagsIn flags)

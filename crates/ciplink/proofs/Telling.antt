@@ -27,7 +27,8 @@ says-refused why (refused number) h = ap (λ (k : ℕ). 0x100000000 + k) h
 
 -- the flags are those of the word
 module _ (t : Tables) (g f : Flags) (q : g ≡ f) (memory request : List ℕ) (limit : ℕ) (buffer : List ℕ) where
-  pub answer-told : (n r : ℕ) (new after : List ℕ) → Answers limit (answer t g memory request limit) buffer n new after → r ≡ n → Answers limit (answer t f memory request limit) buffer r new after
+  pub answer-told : (n r : ℕ) (new after : List ℕ) → Answers limit (answer t g memory request limit) buffer n new after → r ≡ n
+      → Answers limit (answer t f memory request limit) buffer r new after
   answer-told n r new after h e = rw (← q, e) h
 
   module _ (o : Outcome) (new after : List ℕ) (h : Enters (entry t g memory request limit buffer) o new after) where
@@ -41,7 +42,8 @@ module _ (t : Tables) (g f : Flags) (q : g ≡ f) (memory request : List ℕ) (l
     told-reply n r k e = told r (e ∙ says-reply n (entry t g memory request limit buffer .outcome) (rw k at (h .outcome-is)))
 
     pub told-refused : (why : Refusal) (m r : ℕ) → o ≡ Refused why → m ≡ numberOf why → r ≡ 0x100000000 + m → Tells r
-    told-refused why m r k e s = told r (s ∙ ap (λ (x : ℕ). 0x100000000 + x) e ∙ says-refused why (entry t g memory request limit buffer .outcome) (rw k at (h .outcome-is)))
+    told-refused why m r k e s = told r
+        (s ∙ ap (λ (x : ℕ). 0x100000000 + x) e ∙ says-refused why (entry t g memory request limit buffer .outcome) (rw k at (h .outcome-is)))
 
 module _ (w : Whole) where
   pub whole-refused : (n : ℕ) → w ≡ whole.Refused n → 0x100000000 + n ≡ wholeCode w

@@ -16,7 +16,7 @@ use Rattle.definition.specs.Tables.{Tables}
 use Rattle.definition.specs.Read.{selectedBytes}
 use Rattle.definition.specs.Entry.{Entered, refuse, entry}
 use Rattle.definition.specs.Promises.{Grants}
-use Rattle.continued.specs.Reads.{Sent, Turn, ours, other, Answer, joined, heard, talk, Fair}
+use Rattle.continued.specs.Reads.{Sent, Turn, ours, other, Answered, joined, heard, talk, Fair}
 use Rattle.continued.specs.Pages.{FairPages}
 use Rattle.continued.specs.Point3.{respond, hears, leaves, Event, message, changed, steps, Between, Asks, Reads, FairReads, ReadsDeliver, Pages, FairList, PagesDeliver, Encodes, readRequest, pageRequest}
 use Rattle.continued.proofs.Point3.{continued-reads, continued-pages}
@@ -32,11 +32,11 @@ abbrev pub sent : (request : List ℕ) (limit : ℕ) → Sent
 sent request limit = record { request = request; limit = limit; buffer = replicate 110 0xEE }
 
 -- the newest first
-abbrev answers : Tables → (h : ℕ) → List (Turn Event) → List Answer
+abbrev answers : Tables → (h : ℕ) → List (Turn Event) → List Answered
 answers t h turns = talk (hears t palletFlags) (leaves t palletFlags) (steps t palletFlags) h palletStart [] turns
 
-abbrev sizes : List Answer → List ℕ
-sizes l = map (λ (a : Answer). length (a .bytes)) l
+abbrev sizes : List Answered → List ℕ
+sizes l = map (λ (a : Answered). length (a .bytes)) l
 
 -- ---- reads: all of `Rows`
 
@@ -236,7 +236,7 @@ page limit id more = ours (sent (pageRequest (runFrom id) (1 ∷ 2 ∷ []) ++ mo
 abbrev pages : List (Turn Event)
 pages = page 65536 0 [] ∷ page 16 0 (0xAA ∷ []) ∷ other (changed (replicate 48 3)) ∷ page 100 3 [] ∷ other (message (sent writeCount 100)) ∷ []
 
-pages-come : map (λ (a : Answer). a .bytes) (answers hall 0 pages)
+pages-come : map (λ (a : Answered). a .bytes) (answers hall 0 pages)
     ≡ (0xFF ∷ 0xFF ∷ 0xFF ∷ 0xFF ∷ 0x04 ∷ 0x00 ∷ 0x43 ∷ 0x65 ∷ 0x6C ∷ 0x6C ∷ 0x00 ∷ 0x81 ∷ [])
     ∷ (0x02 ∷ 0x00 ∷ 0x00 ∷ 0x00 ∷ 0x04 ∷ 0x00 ∷ 0x52 ∷ 0x6F ∷ 0x77 ∷ 0x73 ∷ 0xC4 ∷ 0x20 ∷ [])
     ∷ []

@@ -17,27 +17,27 @@ use Rattle.laws.proofs.Sorted.{All-map, All-drop, All-from, from-next}
 use Rattle.definition.specs.Reply.{reply}
 use Rattle.definition.specs.Page.{Entry, idOf, bytesOf, fitting, pageReply}
 use Rattle.definition.specs.Entry.{Outcome, refused, replied}
-use Rattle.continued.specs.Reads.{Sent, Turn, ours, other, Answer, joined, lastStatus, Each, heard, Replied, talk}
+use Rattle.continued.specs.Reads.{Sent, Turn, ours, other, Answered, joined, lastStatus, Each, heard, Replied, talk}
 use Rattle.continued.specs.Pages.{Starts, FairPages, Listed}
 use Rattle.continued.proofs.Talk.{quiet-talk}
 use Rattle.continued.proofs.Entries.{bytes-append, bytes-count, fitting-le, fitting-some, fits-first}
 
 -- the answered page of some entries
-abbrev page : ℕ → List Entry → Answer
+abbrev page : ℕ → List Entry → Answered
 page limit es =
     let n = fitting (limit - 4) es in
     record { limit = limit; status = pick (eqb n (length es)) 0 6; bytes = bytesOf (take n es) }
 
 -- pages, the newest first, of which each is of the entries due that were not yet joined; i are joined
-data Paged (due : List Entry) : ℕ → List Answer → Type 0 where
+data Paged (due : List Entry) : ℕ → List Answered → Type 0 where
   start : Paged due 0 []
-  next : {i : ℕ} {t : List Answer} (limit : ℕ) → Paged due i t → lastStatus t ≢ 0 → All (λ e. 4 + length (e .bytes) ≤ limit) due
+  next : {i : ℕ} {t : List Answered} (limit : ℕ) → Paged due i t → lastStatus t ≢ 0 → All (λ e. 4 + length (e .bytes) ≤ limit) due
       → Paged due (i + fitting (limit - 4) (drop i due)) (page limit (drop i due) ∷ t)
 
 none-joined : (due : List Entry) {i : ℕ} → Paged due i [] → i ≡ 0
 none-joined due start = refl
 
-data Stand (due : List Entry) (i : ℕ) (t : List Answer) : Type 0 where
+data Stand (due : List Entry) (i : ℕ) (t : List Answered) : Type 0 where
   fresh : lastStatus t ≡ 6 → i ≡ 0 → length t ≡ 0 → Stand due i t
   more : lastStatus t ≡ 6 → i < length due → length t ≤ i → Stand due i t
   done : lastStatus t ≡ 0 → i ≡ length due → length t ≤ max 1 (length due) → Stand due i t
@@ -49,7 +49,7 @@ module _ (due : List Entry) where
   brings : (limit i : ℕ) → All (λ e. 4 + length (e .bytes) ≤ limit) due → i < length due → 0 < fitting (limit - 4) (drop i due)
   brings limit i l b = fitting-some (limit - 4) (drop i due) (fit limit i l) (omega (arith, length-drop i due))
 
-  stand : {i : ℕ} {t : List Answer} → Paged due i t → Stand due i t
+  stand : {i : ℕ} {t : List Answered} → Paged due i t → Stand due i t
   stand start = fresh refl refl refl
   stand (next {i} {t} limit c o l) = go (stand c) (eqb (fitting (limit - 4) (drop i due)) (length (drop i due))) refl
     where
@@ -72,7 +72,7 @@ module _ (due : List Entry) where
       go (more s z k) false e = part k e
       go (done s z k) b e = absurd (o s)
 
-  at-most : {i : ℕ} {t : List Answer} → Paged due i t → i ≤ length due
+  at-most : {i : ℕ} {t : List Answered} → Paged due i t → i ≤ length due
   at-most {i} {t} c = go (stand c)
     where
       go : Stand due i t → i ≤ length due
@@ -80,7 +80,7 @@ module _ (due : List Entry) where
       go (more s z k) = omega arith
       go (done s z k) = omega arith
 
-  first-of-them : {i : ℕ} {t : List Answer} → Paged due i t → joined t ≡ bytesOf (take i due)
+  first-of-them : {i : ℕ} {t : List Answered} → Paged due i t → joined t ≡ bytesOf (take i due)
   unfolding bytesOf joined
   first-of-them start = refl
   first-of-them (next {i} {t} limit c o l) =
@@ -89,10 +89,10 @@ module _ (due : List Entry) where
       ∙ sym (bytes-append (take i due) (take n (drop i due)))
       ∙ ap bytesOf (sym (take-add i n due))
 
-  abbrev Brings : Answer → Type 0
+  abbrev Brings : Answered → Type 0
   Brings a = (i j : ℕ) × (i + suc j ≤ length due) × (a .bytes ≡ bytesOf (take (suc j) (drop i due)))
 
-  each-brings : {i : ℕ} {t : List Answer} → Paged due i t → 0 < length due → Each Brings t
+  each-brings : {i : ℕ} {t : List Answered} → Paged due i t → 0 < length due → Each Brings t
   each-brings start p = tt
   each-brings (next {i} {t} limit c o l) p = (go (stand c), each-brings c p)
     where
@@ -107,12 +107,12 @@ module _ (due : List Entry) where
       go (more s z k) = some z
       go (done s z k) = absurd (o s)
 
-  statuses : {i : ℕ} {t : List Answer} → Paged due i t → Each (λ a. (a .status ≡ 0) ⊎ (a .status ≡ 6)) t
+  statuses : {i : ℕ} {t : List Answered} → Paged due i t → Each (λ a. (a .status ≡ 0) ⊎ (a .status ≡ 6)) t
   statuses start = tt
   statuses (next {i} limit c o l) =
       (pick-all (λ (n : ℕ). (n ≡ 0) ⊎ (n ≡ 6)) (eqb (fitting (limit - 4) (drop i due)) (length (drop i due))) (inl refl) (inr refl), statuses c)
 
-  last-zero : All (λ e. 0 < length (e .bytes)) due → {i : ℕ} {t : List Answer} → Paged due i t → 0 < length t → (lastStatus t ≡ 0) ↔ (joined t ≡ bytesOf due)
+  last-zero : All (λ e. 0 < length (e .bytes)) due → {i : ℕ} {t : List Answered} → Paged due i t → 0 < length t → (lastStatus t ≡ 0) ↔ (joined t ≡ bytesOf due)
   last-zero some-bytes {i} {t} c p = go (stand c)
     where
       go : Stand due i t → (lastStatus t ≡ 0) ↔ (joined t ≡ bytesOf due)
@@ -127,7 +127,7 @@ module _ (due : List Entry) where
       )
       go (done s z k) = (λ y. first-of-them c ∙ ap (λ (n : ℕ). bytesOf (take n due)) z ∙ ap bytesOf (take-length due), λ q. s)
 
-  few : {i : ℕ} {t : List Answer} → Paged due i t → length t ≤ max 1 (length due)
+  few : {i : ℕ} {t : List Answered} → Paged due i t → length t ≤ max 1 (length due)
   few {i} {t} c = go (stand c)
     where
       go : Stand due i t → length t ≤ max 1 (length due)
@@ -135,7 +135,7 @@ module _ (due : List Entry) where
       go (more s z k) = omega arith
       go (done s z k) = k
 
-  listed : All (λ e. 0 < length (e .bytes)) due → {i : ℕ} {t : List Answer} → Paged due i t → Listed due t
+  listed : All (λ e. 0 < length (e .bytes)) due → {i : ℕ} {t : List Answered} → Paged due i t → Listed due t
   listed some-bytes {i} c = record {
     entries = i;
     at-most = at-most c;
@@ -165,7 +165,7 @@ module _ {State Event : Type 0} (hear : Sent → State → Outcome) (after : Sen
   due-bytes m f = All-from idOf (λ e. 0 < length (e .bytes)) first (symbols m) (some-bytes m f)
 
   -- a page turn: what is heard is a page more or nothing
-  turn : (D : List Entry) (o : Outcome) (limit i : ℕ) (t : List Answer) → Paged D i t → lastStatus t ≢ 0
+  turn : (D : List Entry) (o : Outcome) (limit i : ℕ) (t : List Answered) → Paged D i t → lastStatus t ≢ 0
       → (Replied o → All (λ e. 4 + length (e .bytes) ≤ limit) D) → (Replied o → o ≡ replied (pageReply service (drop i D) limit))
       → (j : ℕ) × Paged D j (heard 0 limit o t)
   unfolding pageReply reply
@@ -175,7 +175,7 @@ module _ {State Event : Type 0} (hear : Sent → State → Outcome) (after : Sen
       (i + fitting (limit - 4) (drop i D), rw (same, fits-first (limit - 4) (drop i D) (fit D limit i (l tt))) (next limit c n (l tt)))
 
   -- the start ID has what is not yet joined
-  asked : (i : ℕ) (t : List Answer) (s : Sent) (m : State) → Fits m → Paged (dueIn m) i t → Starts (pages m s) (dueIn m) first t
+  asked : (i : ℕ) (t : List Answered) (s : Sent) (m : State) → Fits m → Paged (dueIn m) i t → Starts (pages m s) (dueIn m) first t
       → Replied (hear s m) → hear s m ≡ replied (pageReply service (drop i (dueIn m)) (s .limit))
   asked i [] s m f c x r = rw (none-joined (dueIn m) c) (page-law s m first f x r)
   asked i (a ∷ t) s m f c x r =
@@ -183,7 +183,7 @@ module _ {State Event : Type 0} (hear : Sent → State → Outcome) (after : Sen
       (ap length (sym (first-of-them (dueIn m) c)) ∙ x .2) in
       rw (same, ← from-next idOf first (symbols m) (sorted m f) (x .0) (x .1)) (page-law s m _ f (x .3) r)
 
-  paged : (D : List Entry) (turns : List (Turn Event)) (m : State) (i : ℕ) (t : List Answer) → Fits m → dueIn m ≡ D → Paged D i t
+  paged : (D : List Entry) (turns : List (Turn Event)) (m : State) (i : ℕ) (t : List Answered) → Fits m → dueIn m ≡ D → Paged D i t
       → FairPages hear after step pages dueIn first between m t turns → (j : ℕ) × Paged D j (talk hear after step 0 m t turns)
   unfolding FairPages talk
   paged D [] m i t f e c p = (i, c)

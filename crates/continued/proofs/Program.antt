@@ -18,7 +18,7 @@ use Rattle.logix.specs.declared.entry.Refusal.{Refusal}
 use Rattle.logix.specs.declared.entry.Refusal.the-variants.{RequestTooLong, LimitTooLarge, BufferTooShort, TablesInvalid}
 use Rattle.logix.specs.declared.entry.Outcome.{Outcome as Result}
 use Rattle.logix.specs.declared.entry.Outcome.the-variants.{Reply, Refused}
-use Rattle.continued.specs.Reads.{Sent, Turn, ours, other, Answer, heard, talk}
+use Rattle.continued.specs.Reads.{Sent, Turn, ours, other, Answered, heard, talk}
 use Rattle.continued.specs.Point3.{Memory, respond, hears, leaves, Event, message, changed, steps}
 use Rattle.continued.specs.Program.{Runs, ended, next-ours, next-other, Step, ByStep, ByEvent, RunsOf, Leaves, Faithful, Total, Reads-delivered, Pages-listed, Program-point-3, Runs-exist, told, ByMessage, Taken, ByAnswer, Message-point-3, Answer-point-3}
 use Rattle.continued.proofs.Point3.{continued-reads, continued-pages}
@@ -29,7 +29,7 @@ module _ {State Event : Type 0} (hear : Sent → State → Outcome) (after : Sen
     (Hears : Sent → State → Outcome → State → Type 0) (Steps : Event → State → State → Type 0) where
   runs-talk : ((s : Sent) (m left : State) (o : Outcome) → Hears s m o left → (o ≡ hear s m) × (left ≡ after s m))
       → ((e : Event) (m left : State) → Steps e m left → left ≡ step e m)
-      → (h : ℕ) (m : State) (answers : List Answer) (turns : List (Turn Event)) (out : List Answer)
+      → (h : ℕ) (m : State) (answers : List Answered) (turns : List (Turn Event)) (out : List Answered)
       → Runs Hears Steps h m answers turns out → out ≡ talk hear after step h m answers turns
   unfolding talk
   runs-talk hs es h m answers [] out ended = refl
@@ -42,7 +42,7 @@ module _ {State Event : Type 0} (hear : Sent → State → Outcome) (after : Sen
 
 module _ {State Event : Type 0} (Hears : Sent → State → Outcome → State → Type 0) (Steps : Event → State → State → Type 0) where
   some-run : ((s : Sent) (m : State) → (o : Outcome) × (left : State) × Hears s m o left) → ((e : Event) (m : State) → (left : State) × Steps e m left)
-      → (h : ℕ) (m : State) (answers : List Answer) (turns : List (Turn Event)) → (out : List Answer) × Runs Hears Steps h m answers turns out
+      → (h : ℕ) (m : State) (answers : List Answered) (turns : List (Turn Event)) → (out : List Answered) × Runs Hears Steps h m answers turns out
   some-run hs es h m answers [] = (answers, ended)
   some-run hs es h m answers (ours s ∷ rest) =
       let x = hs s m in
@@ -61,7 +61,7 @@ module _ (t : Tables) (f : Flags) (step : Step) (faithful : Faithful t f step) w
   steps-is (message s) m left (o, e) = hears-is s m left o e .1
   steps-is (changed memory) m left e = e
 
-  run-is : (h : ℕ) (m : Memory) (turns : List (Turn Event)) (out : List Answer) → RunsOf step h m [] turns out
+  run-is : (h : ℕ) (m : Memory) (turns : List (Turn Event)) (out : List Answered) → RunsOf step h m [] turns out
       → out ≡ talk (hears t f) (leaves t f) (steps t f) h m [] turns
   run-is h m turns out = runs-talk (hears t f) (leaves t f) (steps t f) (ByStep step) (ByEvent step) hears-is steps-is h m [] turns out
 

@@ -11,11 +11,11 @@ use lib.Seq.{drop-drop, drop-append-seam}
 use Rattle.definition.specs.Reply.{reply}
 use Rattle.definition.specs.Fragment.{fragmentReply}
 use Rattle.definition.specs.Entry.{Outcome, refused, replied}
-use Rattle.continued.specs.Reads.{Sent, Turn, ours, other, Answer, joined, lastStatus, heard, Replied, Quiet, talk, Fair, Delivered}
+use Rattle.continued.specs.Reads.{Sent, Turn, ours, other, Answered, joined, lastStatus, heard, Replied, Quiet, talk, Fair, Delivered}
 use Rattle.continued.proofs.Chain.{Chain, start, next, End, all, some, ends, delivered}
 
 module _ (S header : List ℕ) where
-  more-due : 0 < length S → (t : List Answer) → Chain S (length header) t → lastStatus t ≢ 0 → length (joined t) < length S
+  more-due : 0 < length S → (t : List Answered) → Chain S (length header) t → lastStatus t ≢ 0 → length (joined t) < length S
   more-due p t c n = go (ends S (length header) p c)
     where
       go : End S (length header) t → length (joined t) < length S
@@ -23,7 +23,7 @@ module _ (S header : List ℕ) where
       go (some z e) = e
 
   -- a read turn: the state stays as it was, and what is heard is a fragment more or nothing
-  turn : {State : Type 0} (service limit : ℕ) (o : Outcome) (m left : State) (t : List Answer) → Chain S (length header) t → lastStatus t ≢ 0
+  turn : {State : Type 0} (service limit : ℕ) (o : Outcome) (m left : State) (t : List Answered) → Chain S (length header) t → lastStatus t ≢ 0
       → (Replied o → 5 + length header ≤ limit)
       → (Replied o → (o ≡ replied (fragmentReply service header (drop (length (joined t)) S) limit)) × (left ≡ m))
       → ((Replied o → ⊥) → left ≡ m)
@@ -36,7 +36,7 @@ module _ (S header : List ℕ) where
 
 -- with none of ours left nothing more is heard
 pub quiet-talk : {State Event : Type 0} (hear : Sent → State → Outcome) (after : Sent → State → State) (step : Event → State → State)
-    (h : ℕ) (m : State) (t : List Answer) (rest : List (Turn Event)) → Quiet rest → talk hear after step h m t rest ≡ t
+    (h : ℕ) (m : State) (t : List Answered) (rest : List (Turn Event)) → Quiet rest → talk hear after step h m t rest ≡ t
 unfolding talk
 quiet-talk hear after step h m t [] q = refl
 quiet-talk hear after step h m t (ours s ∷ rest) q = absurd q
@@ -51,7 +51,7 @@ module _ {State Event : Type 0} (hear : Sent → State → Outcome) (after : Sen
     (read-law : (s : Sent) (m : State) (offset : ℕ) → Fits m → reads m s offset → offset < length (selected m) → Replied (hear s m)
     → (hear s m ≡ replied (fragmentReply service header (drop offset (selected m)) (s .limit))) × (after s m ≡ m))
     (refusal-law : (s : Sent) (m : State) → (Replied (hear s m) → ⊥) → after s m ≡ m) where
-  chain : (S : List ℕ) → 0 < length S → (turns : List (Turn Event)) (m : State) (t : List Answer) → Fits m → selected m ≡ S → Chain S (length header) t
+  chain : (S : List ℕ) → 0 < length S → (turns : List (Turn Event)) (m : State) (t : List Answered) → Fits m → selected m ≡ S → Chain S (length header) t
       → Fair hear after step reads selected between (length header) m t turns → Chain S (length header) (talk hear after step (length header) m t turns)
   unfolding Fair talk
   chain S q [] m t f e c p = c

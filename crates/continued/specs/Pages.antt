@@ -8,11 +8,11 @@ use lib.ListN.{length, take, drop, getD}
 use Rattle.laws.specs.Sorted.{All}
 use Rattle.definition.specs.Page.{Entry, idOf, bytesOf}
 use Rattle.definition.specs.Entry.{Outcome}
-use Rattle.continued.specs.Reads.{Sent, Turn, ours, other, Answer, joined, lastStatus, Each, heard, Replied, Quiet}
+use Rattle.continued.specs.Reads.{Sent, Turn, ours, other, Answered, joined, lastStatus, Each, heard, Replied, Quiet}
 
 -- the start ID is the first until a page is answered, then the last joined ID plus one: of the k-th entry due, if as many bytes are joined as there are up to
 -- it
-abbrev pub Starts : (pages : ℕ → Type 0) (due : List Entry) (first : ℕ) → List Answer → Type 0
+abbrev pub Starts : (pages : ℕ → Type 0) (due : List Entry) (first : ℕ) → List Answered → Type 0
 Starts pages due first [] = pages first
 Starts pages due first (a ∷ before) =
     (k : ℕ) × (k < length due) × (length (joined (a ∷ before)) ≡ length (bytesOf (take (suc k) due))) × pages (suc (getD (map idOf due) k 0))
@@ -21,7 +21,7 @@ module _ {State Event : Type 0} (hear : Sent → State → Outcome) (after : Sen
   -- the premises on the list: none of ours follows status 0, and an answered one has a limit of at least 4 plus the longest entry due; with one of ours
   -- behind it, an event leaves the same entries due and is one that may fall between
   unfoldable pub FairPages : (pages : State → Sent → ℕ → Type 0) (due : State → List Entry) (first : ℕ) (between : Event → State → Type 0)
-      → State → List Answer → List (Turn Event) → Type 0
+      → State → List Answered → List (Turn Event) → Type 0
   FairPages pages due first between m answers [] = Unit {0}
   FairPages pages due first between m answers (ours s ∷ rest) =
       Starts (pages m s) (due m) first answers
@@ -33,7 +33,7 @@ module _ {State Event : Type 0} (hear : Sent → State → Outcome) (after : Sen
       ⊎ ((due (step e m) ≡ due m) × between e m × FairPages pages due first between (step e m) answers rest)
 
 -- what is claimed of the answered pages, the newest first
-pub record Listed (due : List Entry) (answers : List Answer) : Type 0 where
+pub record Listed (due : List Entry) (answers : List Answered) : Type 0 where
   -- the joined entries are the first of those due, ascending, each once, byte for byte
   pub entries : ℕ
   pub at-most : entries ≤ length due

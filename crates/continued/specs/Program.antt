@@ -19,18 +19,18 @@ use Rattle.services.specs.Answers.{Answers}
 use Rattle.logix.specs.Entering.{numberOf, Enters}
 use Rattle.logix.specs.declared.entry.Outcome.{Outcome as Result}
 use Rattle.logix.specs.declared.entry.Outcome.the-variants.{Reply, Refused}
-use Rattle.continued.specs.Reads.{Sent, Turn, ours, other, Answer, heard, Delivered}
+use Rattle.continued.specs.Reads.{Sent, Turn, ours, other, Answered, heard, Delivered}
 use Rattle.continued.specs.Pages.{Listed}
 use Rattle.continued.specs.Point3.{Memory, respond, Event, message, changed, Reads, FairReads, Pages, FairList}
 
 -- ---- runs, over any states and events: from a state and what was heard before, a list of turns to what is heard in the end, the newest first
 
 module _ {State Event : Type 0} (Hears : Sent → State → Outcome → State → Type 0) (Steps : Event → State → State → Type 0) where
-  pub data Runs (h : ℕ) : State → List Answer → List (Turn Event) → List Answer → Type 0 where
-    ended : {m : State} {answers : List Answer} → Runs h m answers [] answers
-    next-ours : {m left : State} {answers : List Answer} {s : Sent} {rest : List (Turn Event)} {out : List Answer} {o : Outcome}
+  pub data Runs (h : ℕ) : State → List Answered → List (Turn Event) → List Answered → Type 0 where
+    ended : {m : State} {answers : List Answered} → Runs h m answers [] answers
+    next-ours : {m left : State} {answers : List Answered} {s : Sent} {rest : List (Turn Event)} {out : List Answered} {o : Outcome}
         → Hears s m o left → Runs h left (heard h (s .limit) o answers) rest out → Runs h m answers (ours s ∷ rest) out
-    next-other : {m left : State} {answers : List Answer} {e : Event} {rest : List (Turn Event)} {out : List Answer}
+    next-other : {m left : State} {answers : List Answered} {e : Event} {rest : List (Turn Event)} {out : List Answered}
         → Steps e m left → Runs h left answers rest out → Runs h m answers (other e ∷ rest) out
 
 -- ---- on a tag memory: what one step of a program is, by the outcome that it tells, the reply buffer and the memory that it leaves
@@ -45,7 +45,7 @@ abbrev pub ByEvent : Step → Event → Memory → Memory → Type 0
 ByEvent step (message s) m left = (o : Outcome) × ByStep step s m o left
 ByEvent step (changed memory) m left = left ≡ memory
 
-abbrev pub RunsOf : Step → (h : ℕ) → Memory → List Answer → List (Turn Event) → List Answer → Type 0
+abbrev pub RunsOf : Step → (h : ℕ) → Memory → List Answered → List (Turn Event) → List Answered → Type 0
 RunsOf step = Runs (ByStep step) (ByEvent step)
 
 -- the definition's outcome, buffer and memory
@@ -65,14 +65,14 @@ Total step = (s : Sent) (m : Memory) → (o : Outcome) × (buffer left : List �
 
 abbrev pub Reads-delivered : Tables → Flags → Step → Type 0
 Reads-delivered t f step =
-    (path : List Segment) (elements : ℕ) (g : Grants t f path elements) (m : Memory) (turns : List (Turn Event)) (out : List Answer)
+    (path : List Segment) (elements : ℕ) (g : Grants t f path elements) (m : Memory) (turns : List (Turn Event)) (out : List Answered)
     → valid t (length m) ≡ true → FairReads t f (Reads path elements) (g .selected) m turns
     → RunsOf step (length (g .selected .header)) m [] turns out
     → Delivered (selectedBytes (g .selected) m) (length (g .selected .header)) out
 
 abbrev pub Pages-listed : Tables → Flags → Step → Type 0
 Pages-listed t f step =
-    (scope : ℕ) (attributes : List ℕ) (first : ℕ) (m : Memory) (turns : List (Turn Event)) (out : List Answer)
+    (scope : ℕ) (attributes : List ℕ) (first : ℕ) (m : Memory) (turns : List (Turn Event)) (out : List Answered)
     → valid t (length m) ≡ true → every isListed attributes ≡ true
     → FairList t f (Pages t scope attributes) scope attributes first m turns
     → RunsOf step 0 m [] turns out
@@ -88,8 +88,8 @@ Program-point-3 = (t : Tables) (f : Flags) (step : Step) → Faithful t f step �
 -- every list of turns has a run, from every memory
 abbrev pub Runs-exist : Type 1
 Runs-exist =
-    (step : Step) → Total step → (h : ℕ) (m : Memory) (answers : List Answer) (turns : List (Turn Event))
-    → (out : List Answer) × RunsOf step h m answers turns out
+    (step : Step) → Total step → (h : ℕ) (m : Memory) (answers : List Answered) (turns : List (Turn Event))
+    → (out : List Answered) × RunsOf step h m answers turns out
 
 -- ---- the steps of `message` and of `answer` on valid tables, by their contracts alone
 

@@ -105,10 +105,12 @@ module _ (d : Defined) where
     attributes-unput at old = rw (attributes-start, put-none)
 
     module _ (i a : ℕ) (number : a ≡ u16At body (2 + 2 * i)) where
-      pub attributes-size : (b used k : ℕ) → used ≡ b + length (attributesTo i) → k ≡ length (symbolAttribute d a) → used + k ≡ b + length (attributesTo (i + 1))
+      pub attributes-size : (b used k : ℕ) → used ≡ b + length (attributesTo i) → k ≡ length (symbolAttribute d a)
+          → used + k ≡ b + length (attributesTo (i + 1))
       attributes-size b used k u e = omega (arith, far-length (symbolAttribute d) (attributesOf d) attributes-none attributes-snoc body i a number)
 
-      pub attributes-room : (n at used m : ℕ) → i < n → used ≡ at + length (attributesTo i) → at + length (attributesTo n) ≤ m → used + length (symbolAttribute d a) ≤ m
+      pub attributes-room : (n at used m : ℕ) → i < n → used ≡ at + length (attributesTo i) → at + length (attributesTo n) ≤ m
+          → used + length (symbolAttribute d a) ≤ m
       attributes-room n at used m h u l = far-room (symbolAttribute d) (attributesOf d) attributes-none attributes-snoc body i n a at used m number h u l
 
       pub attributes-put : (n at used k : ℕ) (old x y : List ℕ) → i < n → used ≡ at + length (attributesTo i) → at + length (attributesTo n) ≤ length old

@@ -97,7 +97,8 @@ take-header x header n e =
     ap (λ (k : ℕ). take (k + n) (header ++ drop (0 + length header) x)) (sym e) ∙ take-append-add header (drop (0 + length header) x) n
     ∙ ap (λ (k : ℕ). header ++ take n (drop k x)) z
 
-module _ (limit service used : ℕ) (s : Status) (x : List ℕ) (short : hasWord s ≡ false) (from : 4 ≤ used) (fits : used ≤ room limit) (holds : room limit ≤ length x) where
+module _ (limit service used : ℕ) (s : Status) (x : List ℕ) (short : hasWord s ≡ false) (from : 4 ≤ used) (fits : used ≤ room limit)
+    (holds : room limit ≤ length x) where
   header-before : (y : List ℕ) → y ≡ put x 0 (reply service s []) → take used y ≡ reply service s (part x 4 (used - 4))
   header-before y e =
       let n : used ≡ 4 + (used - 4) = omega arith in
@@ -107,8 +108,10 @@ module _ (limit service used : ℕ) (s : Status) (x : List ℕ) (short : hasWord
   pub closed : (y z : List ℕ) (h r : ℕ) → Written 0 (reply service s []) x h y → r ≡ used → z ≡ zeroed used (room limit) y
       → Laid limit (reply service s (part x 4 (used - 4))) x r z
   closed y z h r w e f =
-      let long : length (reply service s (part x 4 (used - 4))) ≡ used = omega (arith, reply-long service s (part x 4 (used - 4)) short, length-part x 4 (used - 4) (omega arith)) in
-      let past = drop-put-past x 0 (reply service s []) (omega (arith, header-four service s short)) (room limit) (omega (arith, header-four service s short)) in
+      let long : length (reply service s (part x 4 (used - 4))) ≡ used =
+      omega (arith, reply-long service s (part x 4 (used - 4)) short, length-part x 4 (used - 4) (omega arith)) in
+      let past = drop-put-past x 0 (reply service s []) (omega (arith, header-four service s short)) (room limit)
+      (omega (arith, header-four service s short)) in
       record {
         length-is = e ∙ sym long;
         buffer-is = f ∙ zeroed-laid (room limit) x y _ used long (header-before y (w .buffer-is)) (rw (w .buffer-is) past);

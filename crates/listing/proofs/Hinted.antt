@@ -90,5 +90,7 @@ module _ (scope bound : ℕ) where
 -- by T3 of a valid table set
 pub ids-apart : (structures tags others : List Row) (names tagNames : List ℕ) → SomeValid structures tags others names tagNames → IdsApart tags others
 unfolding valid t3
-ids-apart structures tags others names tagNames w =
-    (among (pairs idsDiffer tags) _ (w .ok) (λ e. simp (e, both-none)), among (every (λ r. every (idsDiffer r) others) tags) _ (w .ok) (λ e. simp (e, both-none)))
+ids-apart structures tags others names tagNames w = (
+  among (pairs idsDiffer tags) _ (w .ok) (λ e. simp (e, both-none)),
+  among (every (λ r. every (idsDiffer r) others) tags) _ (w .ok) (λ e. simp (e, both-none)),
+)

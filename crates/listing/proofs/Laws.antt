@@ -75,7 +75,8 @@ module _ (templates : List ℕ) (service from due limit space : ℕ) (old new : 
       rw (t, some, ← k) (rw (q, left, t) at l))
 
 -- what is sent fits, and its status has no extended word
-pub part-fits : (xs bytes : List ℕ) (from n due space limit : ℕ) → space ≡ limit - 4 → n ≡ min due space → bytes ≡ part xs from n → 4 + length bytes ≤ room limit
+pub part-fits : (xs bytes : List ℕ) (from n due space limit : ℕ) → space ≡ limit - 4 → n ≡ min due space → bytes ≡ part xs from n
+    → 4 + length bytes ≤ room limit
 part-fits xs bytes from n due space limit e f x = rw (x, length-take) (omega arith)
 
 pub no-word : (t : Bool) {s : Status} → s ≡ pick t success partial → hasWord s ≡ false
@@ -83,12 +84,14 @@ no-word true e = rw e
 no-word false e = rw e
 
 module _ (templates : List ℕ) (start size service : ℕ) (body : List ℕ) (limit : ℕ) (old new : List ℕ) (r : ℕ) where
-  pub asked-short : length body < 6 → Laid limit (fail service tooShort) old r new → Laid limit (templateAsked templates start size service body limit) old r new
+  pub asked-short : length body < 6 → Laid limit (fail service tooShort) old r new
+      → Laid limit (templateAsked templates start size service body limit) old r new
   unfolding templateAsked
   asked-short h l = rw (lt-ltb (length body) 6 h) l
 
   module _ (offset : ℕ) (long : 6 ≤ length body) (at : offset ≡ u32At body 0) where
-    pub asked-beyond : size < offset → Laid limit (fail service beyondEnd) old r new → Laid limit (templateAsked templates start size service body limit) old r new
+    pub asked-beyond : size < offset → Laid limit (fail service beyondEnd) old r new
+        → Laid limit (templateAsked templates start size service body limit) old r new
     unfolding templateAsked
     asked-beyond h l = rw (le-ltb (length body) 6 long, ← at, lt-ltb size offset h) l
 
@@ -104,7 +107,8 @@ pub in-store : (t : Tables) (memory : ℕ) → valid t memory ≡ true → InSto
 unfolding valid t4 structureFits
 in-store t memory v i h =
     let four = both-true (t4 t) _ (both-true (t3 t) _ (both-true (t2 t) _ (both-true (t1 t memory) _ (both-true (encoded t) _ v .1) .1) .1) .1) .0 in
-    let fits = everyFrom-at (structureFits (t .structures) (t .members) (length (t .templates))) [] 0 (t .structures) i i (both-true _ _ four .0) h (omega arith) in
+    let fits = everyFrom-at (structureFits (t .structures) (t .members) (length (t .templates))) [] 0 (t .structures) i i (both-true _ _ four .0) h
+    (omega arith) in
     let row = getD (t .structures) i [] in
     leb-true _ _ (both-true (leb (templateStart row + templateLength row) (length (t .templates))) _
     (both-true (leb (structureSize row) 65535) _ (both-true (ltb 0 (structureSize row)) _ fits .1) .1) .0)
@@ -118,7 +122,8 @@ module _ (structures members programs tags others : List Row) (names tagNames te
   ReadLaid o = Laid limit (readTemplate tables service o body limit) old r new
 
   found-template : (i : ℕ) (o : Option ℕ) → At i ≡ foundOf o
-      → Laid limit (templateAsked templates (templateStart (getD structures i [])) (templateLength (getD structures i [])) service body limit) old r new → ReadLaid o
+      → Laid limit (templateAsked templates (templateStart (getD structures i [])) (templateLength (getD structures i [])) service body limit) old r new
+      → ReadLaid o
   unfolding templateAsked templateSent templateReply sendTemplate
   found-template i none e l = clash (cc e)
   found-template i (some j) e l = let k : i ≡ j = cc e in rw k at l
@@ -132,5 +137,6 @@ module _ (structures members programs tags others : List Row) (names tagNames te
       → ReadLaid (templateIn structures id)
   read-found i f q e l = found-template i (templateIn structures id) (sym q ∙ e) l
 
-  pub read-unknown : (f : Found) → f ≡ Nothing → f ≡ foundOf (templateIn structures id) → Laid limit (fail service pathUnknown) old r new → ReadLaid (templateIn structures id)
+  pub read-unknown : (f : Found) → f ≡ Nothing → f ≡ foundOf (templateIn structures id) → Laid limit (fail service pathUnknown) old r new
+      → ReadLaid (templateIn structures id)
   read-unknown f q e l = no-template (templateIn structures id) (sym q ∙ e) l

@@ -24,7 +24,7 @@ use Rattle.listing.specs.Values.{valueOf, valueBytes, reference}
 use Rattle.listing.specs.Objects.{countIn, objectValue, unknownWord}
 use Rattle.listing.specs.declared.values.Value.{Value}
 use Rattle.listing.specs.declared.values.Value.the-variants.{Byte, Short, Long, Reference, Unknown}
-use Rattle.listing.specs.declared.attributes.Object.{Object}
+use Rattle.listing.specs.declared.attributes.Described.{Described}
 use Rattle.listing.specs.declared.attributes.Count.{Count}
 use Rattle.listing.specs.declared.attributes.Count.the-variants.{Of, Missing}
 use Rattle.cip.proofs.Capped.{header-then, capped-fits, capped-large}
@@ -45,7 +45,8 @@ numbers-snoc : (i : ℕ) (s : List ℕ) → numbers (suc i) s ≡ numbers i s ++
 unfolding numbers
 numbers-snoc zero s = refl
 numbers-snoc (suc i) s =
-    ap (λ (l : List ℕ). u16At s 0 ∷ l) (numbers-snoc i (drop 2 s) ∙ ap (λ (x : ℕ). numbers i (drop 2 s) ++ (x ∷ [])) (u16-drop s 2 (2 * i) (2 * suc i) (omega arith)))
+    ap (λ (l : List ℕ). u16At s 0 ∷ l)
+    (numbers-snoc i (drop 2 s) ∙ ap (λ (x : ℕ). numbers i (drop 2 s) ++ (x ∷ [])) (u16-drop s 2 (2 * i) (2 * suc i) (omega arith)))
 
 -- the numbers of a list up to the next one
 pub numbers-next : (body : List ℕ) (i : ℕ) → numbers (i + 1) (drop 2 body) ≡ numbers i (drop 2 body) ++ (u16At body (2 + 2 * i) ∷ [])
@@ -123,7 +124,7 @@ program-low x w k e f =
 pub long-same : (x y : ℕ) → x ≡ y → some (le32 x) ≡ some (le32 y)
 long-same x y e = rw e
 
-pub value-case : (o p : Object) (a : ℕ) (r : Value) → o ≡ p → valueOf r ≡ objectValue p a → valueOf r ≡ objectValue o a
+pub value-case : (o p : Described) (a : ℕ) (r : Value) → o ≡ p → valueOf r ≡ objectValue p a → valueOf r ≡ objectValue o a
 value-case o p a r e h = rw e h
 
 pub value-short : (v : Value) → length (valueBytes v) ≤ 12
@@ -144,7 +145,8 @@ entry-bytes a Unknown = refl
 entry-length : (a : ℕ) (v : Value) → length (attributeEntry a (valueOf v)) ≡ 4 + length (valueBytes v)
 entry-length a v = rw (← (entry-bytes a v)) (omega arith)
 
-pub entry-written : (a at s k : ℕ) (v : Value) (old x y z : List ℕ) → s ≡ unknownWord v → x ≡ put old at (le16 a) → y ≡ put x (at + 2) (le16 s) → Written (at + 4) (valueBytes v) y k z
+pub entry-written : (a at s k : ℕ) (v : Value) (old x y z : List ℕ) → s ≡ unknownWord v → x ≡ put old at (le16 a) → y ≡ put x (at + 2) (le16 s)
+    → Written (at + 4) (valueBytes v) y k z
     → at + (4 + length (valueBytes v)) ≤ length old → Written at (attributeEntry a (valueOf v)) old (4 + k) z
 entry-written a at s k v old x y z e p q w l = record {
   length-is = omega (arith, w .length-is, entry-length a v);
@@ -154,7 +156,7 @@ entry-written a at s k v old x y z e p q w l = record {
 
 -- ---- the list of an object's attributes
 
-module _ (o : Object) where
+module _ (o : Described) where
   abbrev each : ℕ → List ℕ
   each a = attributeEntry a (objectValue o a)
 
@@ -191,7 +193,8 @@ module _ (o : Object) where
           let r = rw (← value) at (far-room each (attributeEntries (objectValue o)) entries-none entries-snoc body i n a at used m number h u l) in
           omega (arith, r, entry-length a v)
 
-      pub entries-put : (n at used k : ℕ) (old x y : List ℕ) → i < n → used ≡ at + length (entriesTo i) → at + length (entriesTo n) ≤ length old → x ≡ put old at (entriesTo i)
+      pub entries-put : (n at used k : ℕ) (old x y : List ℕ) → i < n → used ≡ at + length (entriesTo i) → at + length (entriesTo n) ≤ length old
+          → x ≡ put old at (entriesTo i)
           → Written used (attributeEntry a (valueOf v)) x k y → y ≡ put old at (entriesTo (i + 1))
       entries-put n at used k old x y h u l p w =
           far-put each (attributeEntries (objectValue o)) entries-none entries-snoc body i a at used old x y number u p (rw (← value) (w .buffer-is))
@@ -209,7 +212,7 @@ module _ (o : Object) where
 
 -- ---- the reply
 
-module _ (limit service : ℕ) (o : Object) (body old : List ℕ) where
+module _ (limit service : ℕ) (o : Described) (body old : List ℕ) where
   abbrev whole : ℕ → List ℕ
   whole n = reply service success (le16 n ++ entriesTo o body n)
 
@@ -222,7 +225,8 @@ module _ (limit service : ℕ) (o : Object) (body old : List ℕ) where
   whole-split n = refl
 
   pub list-sent : (n w used h r : ℕ) (x y z e : List ℕ) → n ≤ 65535 → 6 + length (entriesTo o body n) ≤ limit → room limit ≤ length old
-      → Written 0 (reply service success []) old h x → w ≡ n % 65536 → y ≡ put x 4 (le16 w) → used ≡ 6 + length (entriesTo o body n) → z ≡ put y 6 (entriesTo o body n)
+      → Written 0 (reply service success []) old h x → w ≡ n % 65536 → y ≡ put x 4 (le16 w) → used ≡ 6 + length (entriesTo o body n)
+      → z ≡ put y 6 (entriesTo o body n)
       → r ≡ used → e ≡ zeroed used (room limit) z → Laid limit (whole n) old r e
   list-sent n w used h r x y z e small fits long a b d u q f g =
       let k : w ≡ n = omega arith in

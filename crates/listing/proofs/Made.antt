@@ -53,7 +53,8 @@ unfolding tagSymbol
 tag-made structures members programs tags others names tagNames templates r s count xs a n k b z x f w small some =
     let long = long-row r some in
     let access : s .access ≡ tagAccess r = omega arith in
-    let kind : s .kind ≡ symbolType structures (tagType r) (length (lengthsOf r)) = k ∙ ap (symbolType structures (tagType r)) (n ∙ ap length (lengths-three r long)) in
+    let kind : s .kind ≡ symbolType structures (tagType r) (length (lengthsOf r)) = k
+    ∙ ap (symbolType structures (tagType r)) (n ∙ ap length (lengths-three r long)) in
     rw (a, kind, b, z, f ∙ listed-three r long xs x, access)
 
 -- ---- lists of attributes that a page knows

@@ -26,8 +26,8 @@ use Rattle.model.specs.Tables.{tablesOf}
 use Rattle.model.specs.declared.lookup.Found.{Found}
 use Rattle.model.specs.declared.lookup.Found.the-variants.{At, Nothing}
 use Rattle.listing.specs.Objects.{objectValue, structureObject, programBy, programObject, tagList}
-use Rattle.listing.specs.declared.attributes.Object.{Object}
-use Rattle.listing.specs.declared.attributes.Object.the-variants.{Program, Plain}
+use Rattle.listing.specs.declared.attributes.Described.{Described}
+use Rattle.listing.specs.declared.attributes.Described.the-variants.{Program, Plain}
 use Rattle.listing.proofs.Laws.{inside-by, first-inside}
 
 -- ---- names of programs
@@ -64,7 +64,7 @@ module _ (limit service : ℕ) (body old new : List ℕ) (r : ℕ) where
   abbrev Answered : List ℕ → Type 0
   Answered bytes = Laid limit (capped service limit bytes) old r new
 
-  abbrev Listed : Object → Type 0
+  abbrev Listed : Described → Type 0
   Listed o = Answered (listReply service (objectValue o) (counted body))
 
   module _ (structures : List Row) (id : ℕ) where
@@ -74,9 +74,14 @@ module _ (limit service : ℕ) (body old new : List ℕ) (r : ℕ) where
     structure-by i f none q e l = clash (cc (q, e))
     structure-by i f (some j) q e l =
         let h : i ≡ j = cc (q, e) in
-        rw (← h, list-same (structureAttribute (getD structures i [])) (objectValue (structureObject (getD structures i []))) (λ a. refl) service (counted body)) l
+        rw (
+          ← h,
+          list-same (structureAttribute (getD structures i [])) (objectValue (structureObject (getD structures i []))) (λ a. refl) service
+              (counted body),
+        ) l
 
-    unknown-by : (f : Found) (o : Option ℕ) → f ≡ Nothing → f ≡ foundOf o → Answered (fail service pathUnknown) → Answered (structureList structures service o body)
+    unknown-by : (f : Found) (o : Option ℕ) → f ≡ Nothing → f ≡ foundOf o → Answered (fail service pathUnknown)
+        → Answered (structureList structures service o body)
     unknown-by f none q e l = l
     unknown-by f (some j) q e l = clash (cc (q, e))
 
@@ -123,7 +128,8 @@ module _ (limit service : ℕ) (body old new : List ℕ) (r : ℕ) where
     reference-same none a = refl
     reference-same (some k) a = refl
 
-    other-by : (i : ℕ) (f : Found) (x : Object) (o t : Option ℕ) → f ≡ At i → f ≡ foundOf o → x ≡ programObject (programBy programs names (otherName names (getD others i [])))
+    other-by : (i : ℕ) (f : Found) (x : Described) (o t : Option ℕ) → f ≡ At i → f ≡ foundOf o
+        → x ≡ programObject (programBy programs names (otherName names (getD others i [])))
         → Listed x → SymbolAnswered o t
     unfolding programOf programBy
     other-by i f x none t q e p l = clash (cc (q, e))
@@ -138,7 +144,7 @@ module _ (limit service : ℕ) (body old new : List ℕ) (r : ℕ) where
         rw (list-same (programReference none) (objectValue Plain) (λ a. refl) service (counted body)) l
     tag-only f (some j) t q e l = clash (cc (q, e))
 
-    pub symbol-other : (i : ℕ) (f : Found) (x : Object) → f ≡ At i → f ≡ foundOf (idIn others 0 id)
+    pub symbol-other : (i : ℕ) (f : Found) (x : Described) → f ≡ At i → f ≡ foundOf (idIn others 0 id)
         → x ≡ programObject (programBy programs names (otherName names (getD others i []))) → Listed x → Answered (symbolAttributes tables service id body)
     unfolding symbolAttributes
     symbol-other i f x q e p l = other-by i f x (idIn others 0 id) (idIn tags 0 id) q e p l

@@ -21,7 +21,7 @@ use Rattle.model.specs.Tables.{tablesOf}
 use Rattle.model.specs.declared.least.Next.{Next}
 use Rattle.model.specs.declared.least.Next.the-variants.{Tag, Other, Nothing}
 use Rattle.model.proofs.Due.{NextDue, none-due, tag-due, other-due, next-due}
-use Rattle.listing.specs.Entries.{made, Listable, TagMade, OtherMade, Entered, put-in, left-out, Stepped, more, full, done, SomeValid}
+use Rattle.listing.specs.Entries.{made, Listable, TagMade, OtherMade, EntryStep, put-in, left-out, Stepped, more, full, done, SomeValid}
 use Rattle.listing.specs.declared.entries.Symbol.{Symbol}
 use Rattle.listing.specs.declared.pages.Step.{Step}
 use Rattle.listing.specs.declared.pages.Step.the-variants.{Done}
@@ -45,22 +45,25 @@ module _ (t : Tables) (scope bound : ℕ) (attributes : List ℕ) where
 
     stepped-by : (d : Defined) (id : ℕ) → idOf (entryOf attributes d) ≡ id
         → due t scope attributes bound ≡ entryOf attributes d ∷ due t scope attributes (suc id) → (r : Step) (new : List ℕ)
-        → Entered (entryOf attributes d .bytes) limit used id old r new → Steps r new
+        → EntryStep (entryOf attributes d .bytes) limit used id old r new → Steps r new
     stepped-by d id q e r new (put-in b u l p) =
         more (entryOf attributes d) (b ∙ ap suc (sym q)) (e ∙ ap (λ (k : ℕ). entryOf attributes d ∷ due t scope attributes k) (sym b)) u l p
     stepped-by d id q e r new (left-out h p) = full (entryOf attributes d) (due t scope attributes (suc id)) e h p
 
     entered-by : (d : Defined) (name : List ℕ) (s : Symbol) (id : ℕ) (r : Step) (new : List ℕ) → made name s ≡ d
-        → Entered (le32 (s .id) ++ attributesOf (made name s) attributes) limit used id old r new → Entered (entryOf attributes d .bytes) limit used id old r new
+        → EntryStep (le32 (s .id) ++ attributesOf (made name s) attributes) limit used id old r new
+        → EntryStep (entryOf attributes d .bytes) limit used id old r new
     unfolding entryOf
     entered-by d name s id r new e x = rw (← e) x
 
     tag-stepped : (name : List ℕ) (s : Symbol) (i id : ℕ) (r : Step) (new : List ℕ) → NextDue scope attributes t bound (Tag i id)
-        → made name s ≡ tagSymbol t (getD (t .tags) i []) → Entered (le32 (s .id) ++ attributesOf (made name s) attributes) limit used id old r new → Steps r new
+        → made name s ≡ tagSymbol t (getD (t .tags) i []) → EntryStep (le32 (s .id) ++ attributesOf (made name s) attributes) limit used id old r new
+        → Steps r new
     tag-stepped name s i id r new (tag-due h q e) m x = stepped-by _ id q e r new (entered-by _ name s id r new m x)
 
     other-stepped : (name : List ℕ) (s : Symbol) (i id : ℕ) (r : Step) (new : List ℕ) → NextDue scope attributes t bound (Other i id)
-        → made name s ≡ otherSymbol t (getD (t .others) i []) → Entered (le32 (s .id) ++ attributesOf (made name s) attributes) limit used id old r new → Steps r new
+        → made name s ≡ otherSymbol t (getD (t .others) i []) → EntryStep (le32 (s .id) ++ attributesOf (made name s) attributes) limit used id old r new
+        → Steps r new
     other-stepped name s i id r new (other-due h q e) m x = stepped-by _ id q e r new (entered-by _ name s id r new m x)
 
     none-stepped : (new : List ℕ) → NextDue scope attributes t bound Nothing → new ≡ old → Steps Done new
@@ -77,14 +80,14 @@ module _ (structures tags others : List Row) (names tagNames : List ℕ) (scope 
 
     pub tag-step : (attributes : List ℕ) (i id limit used : ℕ) (name : List ℕ) (s : Symbol) (old new : List ℕ) (r : Step) → found ≡ Tag i id
         → name ≡ tagName tagNames (getD tags i []) → TagMade structures (getD tags i []) s
-        → Entered (le32 (s .id) ++ attributesOf (made name s) attributes) limit used id old r new → Stepped set scope attributes limit used bound old r new
+        → EntryStep (le32 (s .id) ++ attributesOf (made name s) attributes) limit used id old r new → Stepped set scope attributes limit used bound old r new
     tag-step attributes i id limit used name s old new r q n m x =
         tag-stepped set scope bound attributes limit used old name s i id r new (due-of attributes (Tag i id) q)
         (rw n (m members programs tags others names tagNames templates)) x
 
     pub other-step : (attributes : List ℕ) (i id limit used : ℕ) (name : List ℕ) (s : Symbol) (old new : List ℕ) (r : Step) → found ≡ Other i id
         → name ≡ otherName names (getD others i []) → OtherMade (getD others i []) s
-        → Entered (le32 (s .id) ++ attributesOf (made name s) attributes) limit used id old r new → Stepped set scope attributes limit used bound old r new
+        → EntryStep (le32 (s .id) ++ attributesOf (made name s) attributes) limit used id old r new → Stepped set scope attributes limit used bound old r new
     other-step attributes i id limit used name s old new r q n m x =
         other-stepped set scope bound attributes limit used old name s i id r new (due-of attributes (Other i id) q)
         (rw n (m structures members programs tags others names tagNames templates)) x
@@ -94,10 +97,12 @@ module _ (structures tags others : List Row) (names tagNames : List ℕ) (scope 
 
   module _ (w : SomeValid structures tags others names tagNames) where
     pub tag-there : (i id : ℕ) → found ≡ Tag i id → i < length tags
-    tag-there i id q = tag-inside (set (w .members) (w .programs) (w .templates) (w .memory) (w .ok)) scope bound [] i id (due-of (w .members) (w .programs) (w .templates) (w .memory) (w .ok) [] (Tag i id) q)
+    tag-there i id q = tag-inside (set (w .members) (w .programs) (w .templates) (w .memory) (w .ok)) scope bound [] i id
+        (due-of (w .members) (w .programs) (w .templates) (w .memory) (w .ok) [] (Tag i id) q)
 
     pub other-there : (i id : ℕ) → found ≡ Other i id → i < length others
-    other-there i id q = other-inside (set (w .members) (w .programs) (w .templates) (w .memory) (w .ok)) scope bound [] i id (due-of (w .members) (w .programs) (w .templates) (w .memory) (w .ok) [] (Other i id) q)
+    other-there i id q = other-inside (set (w .members) (w .programs) (w .templates) (w .memory) (w .ok)) scope bound [] i id
+        (due-of (w .members) (w .programs) (w .templates) (w .memory) (w .ok) [] (Other i id) q)
 
     -- its row makes a symbol
     pub tag-listable : (i id : ℕ) → found ≡ Tag i id → Listable (getD tags i [])

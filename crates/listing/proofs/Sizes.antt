@@ -15,7 +15,8 @@ use Rattle.listing.specs.declared.values.Value.the-variants.{Unknown}
 pub value-room : (at n : ℕ) (v w : Value) (buf : List ℕ) → v ≡ w → at + length (valueBytes v) ≤ length buf → length (valueBytes w) ≡ n → at + n ≤ length buf
 value-room at n v w buf e h k = rw (e, k) at h
 
-pub value-written : (at n : ℕ) (v w : Value) (old new : List ℕ) → v ≡ w → n ≡ length (valueBytes w) → new ≡ put old at (valueBytes w) → Written at (valueBytes v) old n new
+pub value-written : (at n : ℕ) (v w : Value) (old new : List ℕ) → v ≡ w → n ≡ length (valueBytes w) → new ≡ put old at (valueBytes w)
+    → Written at (valueBytes v) old n new
 value-written at n v w old new e l f = rw e (record { length-is = l; buffer-is = f })
 
 pub value-none : (at : ℕ) (v : Value) (old : List ℕ) → v ≡ Unknown → Written at (valueBytes v) old 0 old

@@ -37,7 +37,7 @@ use Rattle.model.specs.declared.lookup.Found.the-variants.{At, Nothing as NotFo
 use Rattle.model.proofs.Cases.{found-some, found-none}
 use Rattle.listing.specs.Objects.{programBy, countIn}
 use Rattle.listing.specs.Entries.{EachValid, SomeValid}
-use Rattle.listing.specs.Pages.{beginOf, firstOf, startWith, BeginsAt, Begins, SomeListed, Lists}
+use Rattle.listing.specs.Pages.{beginOf, firstOf, startWith, BeginsAt, PageBegins, SomeListed, Lists}
 use Rattle.listing.specs.declared.requests.Begin.{Begin}
 use Rattle.listing.specs.declared.requests.Begin.the-variants.{From, Unknown}
 use Rattle.listing.specs.declared.requests.First.{First}
@@ -57,7 +57,8 @@ no-start scope (a ∷ (b ∷ [])) e = rw e
 no-start scope (a ∷ (b ∷ (c ∷ rest))) e = refl
 
 module _ (path : List ℕ) (at scope : ℕ) where
-  start-of : (c i next : ℕ) (r : Begin) → (x : ObjectFound path at c i next) → startWith scope (class c ∷ (instance i ∷ x .rest)) ≡ beginOf r → BeginsAt path at scope r
+  start-of : (c i next : ℕ) (r : Begin) → (x : ObjectFound path at c i next) → startWith scope (class c ∷ (instance i ∷ x .rest)) ≡ beginOf r
+      → BeginsAt path at scope r
   start-of c i next r x e = record {
     is = λ l g. let h : class c ∷ (instance i ∷ x .rest) ≡ l = cc (sym (x .is) ∙ g) in rw h at e;
   }
@@ -104,7 +105,8 @@ unfolding programBy programIn
 program-by programs names name =
     pick-all (Inside (length programs)) (isProgramName name) (first-inside (λ r. sameName (programName names r) (afterPrefix name)) programs) tt
 
-pub program-inside : (programs : List Row) (names name : List ℕ) (k : ℕ) (f : Found) → f ≡ At k → f ≡ foundOf (programBy programs names name) → k < length programs
+pub program-inside : (programs : List Row) (names name : List ℕ) (k : ℕ) (f : Found) → f ≡ At k → f ≡ foundOf (programBy programs names name)
+    → k < length programs
 program-inside programs names name k f q e = inside-by (length programs) k f (programBy programs names name) q e (program-by programs names name)
 
 -- ---- a path's start: behind the name of a known program, or at once
@@ -132,7 +134,8 @@ unnamed t s (b ∷ []) e = refl
 unnamed t s (b ∷ (c ∷ [])) e = rw e
 unnamed t s (b ∷ (c ∷ (d ∷ l))) e = refl
 
-program-same : (t : Tables) (programs : List Row) (names name : List ℕ) → t .programs ≡ programs → t .names ≡ names → programOf t name ≡ programBy programs names name
+program-same : (t : Tables) (programs : List Row) (names name : List ℕ) → t .programs ≡ programs → t .names ≡ names
+    → programOf t name ≡ programBy programs names name
 unfolding programOf programBy
 program-same t programs names name p q = rw (p, q)
 
@@ -161,23 +164,24 @@ module _ (path : List ℕ) (s : Segment) (found : Decoded path 0 s) (f : First) 
     behind-name = segments-rest path 0 (symbol (part path start n)) next symbol-at
 
     module _ (programs : List Row) (names name : List ℕ) (is-name : name ≡ part path start n) where
-      by-name : (o : Option ℕ) (r : Begin) → programBy programs names name ≡ o → ((l : List Defined) → segmentsFrom path next ≡ some l → startNamed o l ≡ beginOf r)
-          → Begins programs names path r
+      by-name : (o : Option ℕ) (r : Begin) → programBy programs names name ≡ o
+          → ((l : List Defined) → segmentsFrom path next ≡ some l → startNamed o l ≡ beginOf r)
+          → PageBegins programs names path r
       by-name o r e h = record {
         is = λ t p q. first-at path 0 (λ l. pageStart t l ≡ beginOf r) (symbol (part path start n)) next symbol-at
             (λ l g. named t (part path start n) o l (program-same t programs names (part path start n) p q ∙ rw (← is-name) e) ∙ h l g);
       }
 
       module _ (v : Found) (v-is : v ≡ foundOf (programBy programs names name)) where
-        pub named-known : (k scope : ℕ) (r : Begin) → v ≡ At k → scope ≡ suc k → BeginsAt path next scope r → Begins programs names path r
+        pub named-known : (k scope : ℕ) (r : Begin) → v ≡ At k → scope ≡ suc k → BeginsAt path next scope r → PageBegins programs names path r
         named-known k scope r q e x = by-name (some k) r (found-some (programBy programs names name) v k v-is q) (λ l y. rw (← e) (x .is l y))
 
-        pub named-unknown : v ≡ NotFound → Begins programs names path Unknown
+        pub named-unknown : v ≡ NotFound → PageBegins programs names path Unknown
         named-unknown q = by-name none Unknown (found-none (programBy programs names name) v v-is q) (λ l y. refl)
 
   -- a path that does not start with a name
   module _ (programs : List Row) (names : List ℕ) (r : Begin) (x : BeginsAt path 0 0 r) where
-    at-once : (u : Defined) (next : ℕ) → segmentAt path 0 ≡ step u next → nameOf u ≡ none → Begins programs names path r
+    at-once : (u : Defined) (next : ℕ) → segmentAt path 0 ≡ step u next → nameOf u ≡ none → PageBegins programs names path r
     at-once u next e n = record {
       is = λ t p q l g. first-at path 0 (λ l. segments path ≡ some l → pageStart t l ≡ beginOf r) u next e
           (λ l y z. unnamed t u l n ∙ x .is (u ∷ l) z) l g g;
@@ -187,12 +191,12 @@ module _ (path : List ℕ) (s : Segment) (found : Decoded path 0 s) (f : First) 
     unfolding pageStart startWith
     no-segments t z = x .is [] z
 
-    empty : segmentAt path 0 ≡ cut → Begins programs names path r
+    empty : segmentAt path 0 ≡ cut → PageBegins programs names path r
     empty e = record {
       is = λ t p q l g. none-at path 0 (λ l. segments path ≡ some l → pageStart t l ≡ beginOf r) e (no-segments t) l g g;
     }
 
-    plain-by : (u : Segment) → segmentAt path 0 ≡ stepOf path u → Other ≡ firstOf u → Begins programs names path r
+    plain-by : (u : Segment) → segmentAt path 0 ≡ stepOf path u → Other ≡ firstOf u → PageBegins programs names path r
     plain-by (Port k) e n = at-once port k e refl
     plain-by (Class y k) e n = at-once (class y) k e refl
     plain-by (Instance y k) e n = at-once (instance y) k e refl
@@ -201,7 +205,7 @@ module _ (path : List ℕ) (s : Segment) (found : Decoded path 0 s) (f : First) 
     plain-by (Symbol a b k) e n = clash (cc n)
     plain-by Invalid e n = empty e
 
-    pub no-name-first : f ≡ Other → Begins programs names path r
+    pub no-name-first : f ≡ Other → PageBegins programs names path r
     no-name-first e = plain-by s (sym (found .is)) (sym e ∙ is)
 
 pub ruleset page-starts = (first-name-fits, behind-name, named-known, named-unknown, no-name-first)
@@ -209,7 +213,7 @@ pub ruleset page-starts = (first-name-fits, behind-name, named-known, named-unkn
 -- ---- the answer
 
 module _ (structures programs tags others : List Row) (names tagNames : List ℕ) (service : ℕ) (path body : List ℕ) (limit : ℕ) (old new : List ℕ) (r : ℕ)
-    (b : Begin) (starts-at : Begins programs names path b) where
+    (b : Begin) (starts-at : PageBegins programs names path b) where
   abbrev set : (members : List Row) (templates : List ℕ) → Tables
   set members templates = tablesOf structures members programs tags others names tagNames templates
 
@@ -242,7 +246,8 @@ module _ (structures programs tags others : List Row) (names tagNames : List ℕ
       lists-refused e h = lists-by (some begin) (ap beginOf known) (λ members templates memory v. rw (listed-as, ← all-is, e) h)
 
       pub lists-page : all ≡ true
-          → EachValid structures tags others names tagNames (λ t. Laid limit (pageReply service (due t scope (numbers n (drop 2 body)) start) limit) old r new) → Listed
+          → EachValid structures tags others names tagNames
+          (λ t. Laid limit (pageReply service (due t scope (numbers n (drop 2 body)) start) limit) old r new) → Listed
       lists-page e h =
           lists-by (some begin) (ap beginOf known) (λ members templates memory v. rw (listed-as, ← all-is, e) (h members programs templates memory v))
 

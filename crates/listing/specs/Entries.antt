@@ -64,14 +64,16 @@ pub data Stepped (t : Tables) (scope : ℕ) (attributes : List ℕ) (limit used 
   done : {new : List ℕ} → due t scope attributes bound ≡ [] → new ≡ old → Stepped t scope attributes limit used bound old Done new
 
 -- the same of one symbol
-pub data Entered (bytes : List ℕ) (limit used id : ℕ) (old : List ℕ) : Step → List ℕ → Type 0 where
-  put-in : {u b h : ℕ} {new : List ℕ} → b ≡ suc id → u ≡ used + length bytes → u ≤ limit → new ≡ put old used bytes → Entered bytes limit used id old (More u b h) new
-  left-out : {new : List ℕ} → limit < used + length bytes → new ≡ old → Entered bytes limit used id old Full new
+pub data EntryStep (bytes : List ℕ) (limit used id : ℕ) (old : List ℕ) : Step → List ℕ → Type 0 where
+  put-in : {u b h : ℕ} {new : List ℕ} → b ≡ suc id → u ≡ used + length bytes → u ≤ limit → new ≡ put old used bytes
+      → EntryStep bytes limit used id old (More u b h) new
+  left-out : {new : List ℕ} → limit < used + length bytes → new ≡ old → EntryStep bytes limit used id old Full new
 
 -- what holds of every valid table set with these tables
 abbrev pub EachValid : (structures tags others : List Row) (names tagNames : List ℕ) → (Tables → Type 0) → Type 0
 EachValid structures tags others names tagNames P =
-    (members programs : List Row) (templates : List ℕ) (memory : ℕ) → valid (tablesOf structures members programs tags others names tagNames templates) memory ≡ true
+    (members programs : List Row) (templates : List ℕ) (memory : ℕ)
+    → valid (tablesOf structures members programs tags others names tagNames templates) memory ≡ true
     → P (tablesOf structures members programs tags others names tagNames templates)
 
 -- there is such a set

@@ -14,8 +14,8 @@ use Rattle.definition.specs.Attributes.{programReference, listReply}
 use Rattle.model.specs.Tables.{tablesOf}
 use Rattle.listing.specs.declared.values.Value.{Value}
 use Rattle.listing.specs.declared.values.Value.the-variants.{Byte, Short, Long, Reference, Unknown}
-use Rattle.listing.specs.declared.attributes.Object.{Object}
-use Rattle.listing.specs.declared.attributes.Object.the-variants.{Structure, Program, Plain}
+use Rattle.listing.specs.declared.attributes.Described.{Described}
+use Rattle.listing.specs.declared.attributes.Described.the-variants.{Structure, Program, Plain}
 use Rattle.listing.specs.declared.attributes.Count.{Count}
 use Rattle.listing.specs.declared.attributes.Count.the-variants.{Of, Missing}
 
@@ -24,7 +24,7 @@ unfoldable pub countIn : List ℕ → Count
 countIn s = pick (ltb (length s) (2 + 2 * u16At s 0)) Missing (Of (u16At s 0))
 
 -- `structureAttribute` and `programReference`
-abbrev pub objectValue : Object → (number : ℕ) → Option (List ℕ)
+abbrev pub objectValue : Described → (number : ℕ) → Option (List ℕ)
 objectValue (Structure h m t s) a =
     pick (eqb a 1) (some (le16 h))
     (pick (eqb a 2) (some (le16 m))
@@ -40,14 +40,14 @@ unknownWord (Long x) = 0
 unknownWord (Reference i) = 0
 unknownWord Unknown = 0x0014
 
-abbrev pub structureObject : Row → Object
+abbrev pub structureObject : Row → Described
 structureObject r = Structure (handle r) (memberCount r) (templateLength r) (structureSize r)
 
 -- `programOf`, by the tables that it uses
 unfoldable pub programBy : (programs : List Row) (names name : List ℕ) → Option ℕ
 programBy programs names name = pick (isProgramName name) (programIn programs names (afterPrefix name)) none
 
-abbrev pub programObject : Option ℕ → Object
+abbrev pub programObject : Option ℕ → Described
 programObject none = Plain
 programObject (some k) = Program k
 

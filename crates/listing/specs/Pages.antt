@@ -43,7 +43,7 @@ startWith scope (a ∷ (b ∷ (c ∷ rest))) = none
 pub record BeginsAt (path : List ℕ) (at scope : ℕ) (r : Begin) : Type 0 where
   pub is : (l : List Defined) → segmentsFrom path at ≡ some l → startWith scope l ≡ beginOf r
 
-pub record Begins (programs : List Row) (names path : List ℕ) (r : Begin) : Type 0 where
+pub record PageBegins (programs : List Row) (names path : List ℕ) (r : Begin) : Type 0 where
   pub is : (t : Tables) → t .programs ≡ programs → t .names ≡ names → (l : List Defined) → segments path ≡ some l → pageStart t l ≡ beginOf r
 
 -- ---- the answer
@@ -57,6 +57,7 @@ pub record SomeListed (structures programs tags others : List Row) (names tagNam
 
 pub record Lists (structures programs tags others : List Row) (names tagNames : List ℕ) (service : ℕ) (path body : List ℕ) (limit : ℕ)
     (old : List ℕ) (r : ℕ) (new : List ℕ) : Type 0 where
-  pub is : (members : List Row) (templates : List ℕ) (memory : ℕ) → valid (tablesOf structures members programs tags others names tagNames templates) memory ≡ true
+  pub is : (members : List Row) (templates : List ℕ) (memory : ℕ)
+      → valid (tablesOf structures members programs tags others names tagNames templates) memory ≡ true
       → (l : List Defined) → segments path ≡ some l
       → Laid limit (listSymbols (tablesOf structures members programs tags others names tagNames templates) service l body limit) old r new

@@ -24,7 +24,7 @@ ghost use Rattle.cip.specs.Writes.{Written, Laid};
 ghost use Rattle.model.specs.Rows.{foundOf};
 ghost use Rattle.listing.specs.Values.{valueOf, valueBytes};
 ghost use Rattle.listing.specs.Objects.{countIn, objectValue, unknownWord, structureObject, programBy, programObject, tagList, WithSymbols};
-ghost use Rattle.listing.specs.declared.attributes.Object.the-variants.{Structure, Program};
+ghost use Rattle.listing.specs.declared.attributes.Described.the-variants.{Structure, Program};
 
 /// The status word of an unknown attribute.
 const UNKNOWN: u16 = 0x0014;
@@ -33,7 +33,7 @@ const UNKNOWN: u16 = 0x0014;
 const FIRST_PROGRAM: u16 = 0x5AD0;
 
 /// What attributes are asked of: a structure by its handle, members, template length and size; a symbol that is named as a program, or any other.
-pub enum Object {
+pub enum Described {
     Structure(u32, u32, u32, u32),
     Program(usize),
     Plain,
@@ -65,10 +65,10 @@ fn words_of(size: u32) -> u32
     ((size as u64 + 23 + 3) / 4) as u32
 }
 
-fn structure_of(row: &[u32; 10]) -> Object
+fn structure_of(row: &[u32; 10]) -> Described
     ensures { λ r. ⌜ r ≡ structureObject (now (row .entry)) ⌝ }
 {
-    Object::Structure(
+    Described::Structure(
         row[STRUCTURE_HANDLE],
         row[STRUCTURE_MEMBERS],
         row[TEMPLATE_LENGTH],
@@ -109,15 +109,15 @@ fn instance_of(k: u16) -> u16
     ((FIRST_PROGRAM as u32 + k as u32) % 65536) as u16
 }
 
-fn object_value(o: Object, number: u16) -> Value
+fn object_value(o: Described, number: u16) -> Value
     ensures { λ r. ⌜ valueOf r ≡ objectValue o number ⌝ }
 {
     match o {
-        Object::Structure(handle, members, template, size) => {
+        Described::Structure(handle, members, template, size) => {
             structure_value(handle, members, template, size, number)
         }
-        Object::Program(k) => program_value(k, number),
-        Object::Plain => Value::Unknown,
+        Described::Program(k) => program_value(k, number),
+        Described::Plain => Value::Unknown,
     }
 }
 
@@ -145,7 +145,7 @@ fn put_entry(buf: &mut [u8], at: usize, number: u16, v: Value) -> usize
 }
 
 /// The bytes of a reply of all entries.
-fn list_size(o: Object, body: &[u8], n: usize) -> usize
+fn list_size(o: Described, body: &[u8], n: usize) -> usize
     requires { ⌜ (2 + 2 * n ≤ length (now body)) × (n ≤ 65535) ⌝ }
     ensures { λ r. ⌜ r ≡ 6 + length (attributeEntries (objectValue o) (numbers n (drop 2 (now (body .entry))))) ⌝ }
 {
@@ -160,7 +160,7 @@ fn list_size(o: Object, body: &[u8], n: usize) -> usize
 }
 
 /// All entries, which fit; returns where they end.
-fn put_list(buf: &mut [u8], at: usize, o: Object, body: &[u8], n: usize) -> usize
+fn put_list(buf: &mut [u8], at: usize, o: Described, body: &[u8], n: usize) -> usize
     requires { ⌜ (2 + 2 * n ≤ length (now body)) × (at + length (attributeEntries (objectValue o) (numbers n (drop 2 (now body)))) ≤ length
         (now buf)) ⌝ }
     ensures { λ r. ⌜ (r ≡ at + length (attributeEntries (objectValue o) (numbers n (drop 2 (now (body .entry))))))
@@ -177,7 +177,14 @@ fn put_list(buf: &mut [u8], at: usize, o: Object, body: &[u8], n: usize) -> usiz
 }
 
 /// A reply of so many entries, which fits.
-fn send_list(o: Object, service: u8, body: &[u8], n: usize, limit: usize, buf: &mut [u8]) -> usize
+fn send_list(
+    o: Described,
+    service: u8,
+    body: &[u8],
+    n: usize,
+    limit: usize,
+    buf: &mut [u8],
+) -> usize
     requires { ⌜ (2 + 2 * n ≤ length (now body)) × (n ≤ 65535) × (room limit ≤ length (now buf))
         × (6 + length (attributeEntries (objectValue o) (numbers n (drop 2 (now body)))) ≤ limit) ⌝ }
     ensures { λ r. ⌜ Laid limit (reply service success (le16 n ++ attributeEntries (objectValue o) (numbers n (drop 2 (now (body .entry))))))
@@ -190,7 +197,7 @@ fn send_list(o: Object, service: u8, body: &[u8], n: usize, limit: usize, buf: &
 }
 
 /// The attributes that a body asks for; 0x11 instead of a reply that exceeds the limit.
-fn attribute_list(o: Object, service: u8, body: &[u8], limit: usize, buf: &mut [u8]) -> usize
+fn attribute_list(o: Described, service: u8, body: &[u8], limit: usize, buf: &mut [u8]) -> usize
     requires { ⌜ room limit ≤ length (now buf) ⌝ }
     ensures { λ r. ⌜ Laid limit (capped service limit (listReply service (objectValue o) (counted (now (body .entry))))) (now (buf .entry)) r
         (now (buf .exit)) ⌝ }
@@ -235,12 +242,12 @@ pub fn program_of(programs: &[[u32; 2]], names: &[u8], name: &[u8]) -> Found
 }
 
 /// A symbol by its name.
-fn named_object(programs: &[[u32; 2]], names: &[u8], name: &[u8]) -> Object
+fn named_object(programs: &[[u32; 2]], names: &[u8], name: &[u8]) -> Described
     ensures { λ r. ⌜ r ≡ programObject (programBy (now (programs .entry)) (now (names .entry)) (now (name .entry))) ⌝ }
 {
     match program_of(programs, names, name) {
-        Found::At(k) => Object::Program(k),
-        Found::Nothing => Object::Plain,
+        Found::At(k) => Described::Program(k),
+        Found::Nothing => Described::Plain,
     }
 }
 
@@ -258,7 +265,7 @@ fn tag_attributes(
         (now (buf .exit)) ⌝ }
 {
     match model::lookup::find_tag_id(tags, 0, id) {
-        Found::At(_) => attribute_list(Object::Plain, service, body, limit, buf),
+        Found::At(_) => attribute_list(Described::Plain, service, body, limit, buf),
         Found::Nothing => replies::refuse(service, Status::PathUnknown, limit, buf),
     }
 }

@@ -26,7 +26,7 @@ ghost use Rattle.cip.specs.Statuses.{statusOf, hasWord};
 ghost use Rattle.cip.specs.Writes.{Laid};
 ghost use Rattle.laws.specs.Tests.{every};
 ghost use Rattle.model.specs.Least.{nextIn};
-ghost use Rattle.listing.specs.Entries.{made, Entered, Stepped, EachValid, SomeValid, IdsApart, Further, stopped};
+ghost use Rattle.listing.specs.Entries.{made, EntryStep, Stepped, EachValid, SomeValid, IdsApart, Further, stopped};
 
 /// A step of a page: where the entries end, the least ID of the next one and the tag to try first; an entry that does not fit; nothing due.
 pub enum Step {
@@ -99,7 +99,7 @@ pub fn entry_step(
     buf: &mut [u8],
 ) -> Step
     requires { ⌜ (2 + 2 * n ≤ length (now body)) × (n ≤ 65535) × (length (now name) ≤ 4294967295) × (used ≤ limit) × (limit ≤ length (now buf)) ⌝ }
-    ensures { λ r. ⌜ Entered (le32 (s .id) ++ attributesOf (made (now (name .entry)) s) (numbers n (drop 2 (now (body .entry))))) limit used id
+    ensures { λ r. ⌜ EntryStep (le32 (s .id) ++ attributesOf (made (now (name .entry)) s) (numbers n (drop 2 (now (body .entry))))) limit used id
         (now (buf .entry)) r (now (buf .exit)) × Further used limit r ⌝ }
 {
     let size = entries::entry_size(name, s, body, n);

@@ -15,7 +15,7 @@ ghost use lib.ListN.{length};
 ghost use Rattle.laws.specs.Pick.{isSome};
 ghost use Rattle.definition.specs.Reply.{room};
 ghost use Rattle.definition.specs.Segment.{segments, segmentsFrom};
-ghost use Rattle.listing.specs.Pages.{firstOf, BeginsAt, Begins, SomeListed, Lists};
+ghost use Rattle.listing.specs.Pages.{firstOf, BeginsAt, PageBegins, SomeListed, Lists};
 
 /// Where a page starts: a scope and the start ID; or a path that no page has.
 pub enum Begin {
@@ -71,7 +71,7 @@ fn start_in(path: &[u8], at: usize, scope: u32) -> Begin
 /// The start of the page that a path asks for: in the scope of a known program, if its name comes first.
 pub fn page_start(programs: &[[u32; 2]], names: &[u8], path: &[u8]) -> Begin
     requires { ⌜ (isSome (segments (now path)) ≡ true) × (length (now programs) ≤ 65535) ⌝ }
-    ensures { λ r. ⌜ Begins (now (programs .entry)) (now (names .entry)) (now (path .entry)) r ⌝ }
+    ensures { λ r. ⌜ PageBegins (now (programs .entry)) (now (names .entry)) (now (path .entry)) r ⌝ }
 {
     let First::Name(start, n, next) = first_of(path::segment_at(path, 0)) else {
         return start_in(path, 0, 0);

@@ -49,7 +49,8 @@ module _ (service : ℕ) (path : List ℕ) where
         rw (eq-eqb service 0x0A h, same) q;
   }
 
-  pub at-object : (o : Object) (c i next : ℕ) (r : Bool) → service ≡ 0x0A → o ≡ Of c i next → ObjectAt path 0 o → r ≡ both (eqb c 0x02) (eqb i 1) → EnvelopeTest service path r
+  pub at-object : (o : Object) (c i next : ℕ) (r : Bool) → service ≡ 0x0A → o ≡ Of c i next → ObjectAt path 0 o → r ≡ both (eqb c 0x02) (eqb i 1)
+      → EnvelopeTest service path r
   at-object o c i next r h k a q = at-there c i next r h (rw k at a) q
 
   without-there : service ≡ 0x0A → ObjectAt path 0 Nothing → EnvelopeTest service path false
@@ -77,12 +78,14 @@ module _ (t : Tables) (f : Flags) (memory message : List ℕ) (limit : ℕ) (old
   abbrev Answered : Type 0
   Answered = Answers limit (answer t f memory message limit) old r new after
 
-  pub answer-malformed : (s : Split) (service : ℕ) → s ≡ splitOf message → s ≡ Malformed → service ≡ getD message 0 0 → Laid limit (fail service pathError) old r new → after ≡ memory → Answered
+  pub answer-malformed : (s : Split) (service : ℕ) → s ≡ splitOf message → s ≡ Malformed → service ≡ getD message 0 0
+      → Laid limit (fail service pathError) old r new → after ≡ memory → Answered
   unfolding answer
   answer-malformed s service q e n l k =
       rw (split-malformed message (sym q ∙ e), ← n) (record { length-is = l .length-is; buffer-is = l .buffer-is; memory-is = k })
 
-  module _ (split : Split) (size service : ℕ) (path body : List ℕ) (is : split ≡ splitOf message) (e : split ≡ Path size) (s : service ≡ getD message 0 0) (p : path ≡ part message 2 size)
+  module _ (split : Split) (size service : ℕ) (path body : List ℕ) (is : split ≡ splitOf message) (e : split ≡ Path size) (s : service ≡ getD message 0 0)
+      (p : path ≡ part message 2 size)
       (q : body ≡ drop (2 + size) message) where
     abbrev asked : Requested message size
     asked = split-request message size (sym is ∙ e)
@@ -96,10 +99,12 @@ module _ (t : Tables) (f : Flags) (memory message : List ℕ) (limit : ℕ) (old
     unfolding answer
     answer-is = rw (asked .request-is, s, q)
 
-    pub answer-envelope : (b : Bool) → EnvelopeTest service path b → b ≡ true → Answers limit (envelope f (partDispatch t f) memory body limit) old r new after → Answered
+    pub answer-envelope : (b : Bool) → EnvelopeTest service path b → b ≡ true
+        → Answers limit (envelope f (partDispatch t f) memory body limit) old r new after → Answered
     answer-envelope b test on a = rw (answer-is, ← (test .is (asked .path) segments-are), on) a
 
-    pub answer-plain : (b : Bool) → EnvelopeTest service path b → b ≡ false → OnPath path limit (λ l. plain t f memory service l body limit) old r new after → Answered
+    pub answer-plain : (b : Bool) → EnvelopeTest service path b → b ≡ false → OnPath path limit (λ l. plain t f memory service l body limit) old r new after
+        → Answered
     answer-plain b test off a = rw (answer-is, ← (test .is (asked .path) segments-are), off) (a .is (asked .path) segments-are)
 
 -- ---- a part that does not start with 0x0A is answered as a message is
@@ -108,7 +113,8 @@ module _ (t : Tables) (f : Flags) (memory p : List ℕ) (budget service : ℕ) (
   not-envelope : eqb (getD p 0 0) 0x0A ≡ false
   not-envelope = ne-eqb (getD p 0 0) 0x0A (λ e. other (first ∙ e))
 
-  agree-by : (o : Option (List Segment)) (body : List ℕ) → anyRequest t f memory p (withPath (getD p 0 0) o body) budget ≡ plainRequest t f memory p (withPath (getD p 0 0) o body) budget
+  agree-by : (o : Option (List Segment)) (body : List ℕ)
+      → anyRequest t f memory p (withPath (getD p 0 0) o body) budget ≡ plainRequest t f memory p (withPath (getD p 0 0) o body) budget
   agree-by none body = refl
   agree-by (some path) body = rw not-envelope
 
@@ -122,14 +128,17 @@ module _ (t : Tables) (f : Flags) (memory p : List ℕ) (budget service : ℕ) (
   whole = proper-answer t f memory p budget
 
   module _ (limit used : ℕ) (old : List ℕ) (n : ℕ) (new mem : List ℕ) where
-    pub part-in-place : 8 ≤ budget → budget ≤ limit - used → room limit ≤ length old → Answers budget (answer t f memory p budget) (take (length old - used) (drop used old)) n new mem
+    pub part-in-place : 8 ≤ budget → budget ≤ limit - used → room limit ≤ length old
+        → Answers budget (answer t f memory p budget) (take (length old - used) (drop used old)) n new mem
         → PartAnswers (partAnswer (partDispatch t f) memory p budget) budget limit used old
         (record { len = n; fine = eqb (getD (take used old ++ (new ++ drop (length old - used) (drop used old))) (used + 2) 0) 0 })
         (take used old ++ (new ++ drop (length old - used) (drop used old))) mem
-    part-in-place b l k a = rw (← part-agrees) (in-the-tail (answer t f memory p budget) budget limit used old n new mem (whole .headed .long) (whole .fits) b l k a)
+    part-in-place b l k a = rw (← part-agrees)
+        (in-the-tail (answer t f memory p budget) budget limit used old n new mem (whole .headed .long) (whole .fits) b l k a)
 
   -- through a scratch of eight bytes
-  module _ (n : ℕ) (scratch new mem : List ℕ) (small : budget < 8) (eight : length scratch ≡ 8) (a : Answers budget (answer t f memory p budget) scratch n new mem) where
+  module _ (n : ℕ) (scratch new mem : List ℕ) (small : budget < 8) (eight : length scratch ≡ 8)
+      (a : Answers budget (answer t f memory p budget) scratch n new mem) where
     pub part-some : 3 ≤ n
     part-some = omega (arith, a .length-is, whole .headed .long)
 
@@ -144,10 +153,12 @@ module _ (t : Tables) (f : Flags) (memory p : List ℕ) (budget service : ℕ) (
         (copied-placed (take n new) limit used old r end k w))
 
 -- what a dispatch needs of the end of a buffer
-pub tail-room : (old : List ℕ) (budget limit used : ℕ) → 8 ≤ budget → budget ≤ limit - used → room limit ≤ length old → room budget ≤ length (take (length old - used) (drop used old))
+pub tail-room : (old : List ℕ) (budget limit used : ℕ) → 8 ≤ budget → budget ≤ limit - used → room limit ≤ length old
+    → room budget ≤ length (take (length old - used) (drop used old))
 tail-room old budget limit used b l k = rw (to-end, length-drop) (omega arith)
 
-pub part-declined : (d : Dispatcher) (memory p : List ℕ) (budget service limit used : ℕ) (old : List ℕ) (r : PartReply) (new : List ℕ) → service ≡ getD p 0 0 → service ≡ 0x0A
+pub part-declined : (d : Dispatcher) (memory p : List ℕ) (budget service limit used : ℕ) (old : List ℕ) (r : PartReply) (new : List ℕ) → service ≡ getD p 0 0
+    → service ≡ 0x0A
     → room limit ≤ length old → Copied (fail envelopeService notSupported) limit used old r new
     → PartAnswers (partAnswer d memory p budget) budget limit used old r new memory
 unfolding partAnswer reply

@@ -45,7 +45,8 @@ module _ (t : Tables) (f : Flags) (memory request : List ℕ) (limit : ℕ) (buf
             rw (le-ltb 65535 (length request) short, le-ltb 65535 limit small, le-ltb (length buffer) (room limit) (omega arith), ← judged, e)
             (record { outcome-is = refl; buffer-is = refl; memory-is = refl })
 
-        pub enters-well : b ≡ true → (r : ℕ) (new after : List ℕ) → Answers limit (answer t f memory request limit) buffer r new after → Comes (Reply r) new after
+        pub enters-well : b ≡ true → (r : ℕ) (new after : List ℕ) → Answers limit (answer t f memory request limit) buffer r new after
+            → Comes (Reply r) new after
         unfolding entry
         enters-well e r new after h =
             rw (le-ltb 65535 (length request) short, le-ltb 65535 limit small, le-ltb (length buffer) (room limit) (omega arith), ← judged, e)

@@ -117,7 +117,8 @@ module _ (d : Dispatcher) (mem₀ body : List ℕ) (limit : ℕ) (old : List ℕ
           let put-there : mid ≡ put buf (6 + 2 * i) w = marked-put limit used i buf mid m (omega arith) in
           let fits : 6 + 2 * i + 2 ≤ length buf = omega (arith, g .size, g .long) in
           let behind : drop head mid ≡ drop head buf = rw put-there (drop-put-past buf (6 + 2 * i) w fits head (omega arith)) in
-          part-grows mid new (one .reply) used sum (omega (arith, g .long)) (q .placed .stands k) refl head (used - head) (sum - head) (omega (arith, g .size)) (omega (arith, g .size))
+          part-grows mid new (one .reply) used sum (omega (arith, g .long)) (q .placed .stands k) refl head (used - head) (sum - head)
+          (omega (arith, g .size)) (omega (arith, g .size))
           ∙ ap (λ (l : List ℕ). take (used - head) l ++ one .reply) behind
           ∙ ap (λ (l : List ℕ). l ++ one .reply) (g .replies (omega arith))
           ∙ sym (join-one (g .done) (one .reply))
@@ -211,4 +212,8 @@ module _ (d : Dispatcher) (mem₀ body : List ℕ) (limit : ℕ) (old : List ℕ
     unfolding closeEnvelope
     going-end =
         rw (all-done e, whole-long e)
-        (elim (decLe used limit) [ yes h ↦ rw (le-leb used limit h) (closed-fits h) | no h ↦ rw (lt-leb used limit (lt-of-not-le h)) (closed-large (lt-of-not-le h)) ])
+        (elim (decLe used limit) [
+          | yes h ↦ rw (le-leb used limit h) (closed-fits h)
+          | no h ↦ rw (lt-leb used limit (lt-of-not-le h))
+              (closed-large (lt-of-not-le h))
+        ])

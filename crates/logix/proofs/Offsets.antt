@@ -123,7 +123,9 @@ module _ (body : List ℕ) where
   unfolding partsOf counted
   parts-missing h = rw (lt-ltb (length body) (2 + 2 * u16At body 0) h)
 
-  parts-by : 2 + 2 * u16At body 0 ≤ length body → partsOf body ≡ pick (ascending (2 + 2 * u16At body 0) (numbers (u16At body 0) (drop 2 body)) (length body)) (some (partsFrom body (numbers (u16At body 0) (drop 2 body)))) none
+  parts-by : 2 + 2 * u16At body 0 ≤ length body
+      → partsOf body ≡ pick (ascending (2 + 2 * u16At body 0) (numbers (u16At body 0) (drop 2 body)) (length body))
+      (some (partsFrom body (numbers (u16At body 0) (drop 2 body)))) none
   unfolding partsOf counted
   parts-by h = rw (le-ltb (length body) (2 + 2 * u16At body 0) h, numbers-long)
 

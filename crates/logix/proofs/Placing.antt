@@ -89,7 +89,8 @@ module _ (limit used i : ℕ) (old : List ℕ) where
         rw (marked-put m h) (drop-put-past old (6 + 2 * i) (le16 (used - 4)) (omega (arith, h)) (room limit) (omega (arith, h))))
         (λ t. ap (drop (room limit)) (m ∙ rw t))
 
-pub closed-late : (limit count used : ℕ) (fine : Bool) (old : List ℕ) (r : ℕ) (new : List ℕ) → limit < used → Laid limit (fail envelopeService tooLarge) old r new
+pub closed-late : (limit count used : ℕ) (fine : Bool) (old : List ℕ) (r : ℕ) (new : List ℕ) → limit < used
+    → Laid limit (fail envelopeService tooLarge) old r new
     → Closed limit count used fine old r new
 closed-late limit count used fine old r new h l = record { large = λ _. l; length-is = λ k. absurd (omega arith); buffer-is = λ k. absurd (omega arith) }
 
@@ -97,8 +98,10 @@ no-word : (b : Bool) → hasWord (outcomeOf b) ≡ false
 no-word true = refl
 no-word false = refl
 
-pub closed : (limit count used : ℕ) (fine : Bool) (s : Status) (w h : ℕ) (old x y : List ℕ) (r : ℕ) (new : List ℕ) → used ≤ limit → count ≤ 65535 → room limit ≤ length old
-    → s ≡ outcomeOf fine → Written 0 (reply envelopeService s []) old h x → w ≡ count % 65536 → y ≡ put x 4 (le16 w) → r ≡ used → new ≡ zeroed used (room limit) y
+pub closed : (limit count used : ℕ) (fine : Bool) (s : Status) (w h : ℕ) (old x y : List ℕ) (r : ℕ) (new : List ℕ) → used ≤ limit → count ≤ 65535
+    → room limit ≤ length old
+    → s ≡ outcomeOf fine → Written 0 (reply envelopeService s []) old h x → w ≡ count % 65536 → y ≡ put x 4 (le16 w) → r ≡ used
+    → new ≡ zeroed used (room limit) y
     → Closed limit count used fine old r new
 closed limit count used fine s w h old x y r new l m k e a b p q z =
     let n : w ≡ count = omega arith in
@@ -119,7 +122,8 @@ behind m k old ys new e h l =
 
 module _ (a : Answer) (budget limit used : ℕ) (old : List ℕ) (n : ℕ) (new mem : List ℕ) where
   -- in place: the part's buffer is the end of the whole
-  in-place : 4 ≤ length (a .reply) → length (a .reply) ≤ room budget → 8 ≤ budget → budget ≤ limit - used → room limit ≤ length old → Answers budget a (drop used old) n new mem
+  in-place : 4 ≤ length (a .reply) → length (a .reply) ≤ room budget → 8 ≤ budget → budget ≤ limit - used → room limit ≤ length old
+      → Answers budget a (drop used old) n new mem
       → PartAnswers a budget limit used old (record { len = n; fine = eqb (getD (take used old ++ new) (used + 2) 0) 0 }) (take used old ++ new) mem
   in-place four short b f k l =
       let ys = a .reply in
@@ -128,7 +132,8 @@ module _ (a : Answer) (budget limit used : ℕ) (old : List ℕ) (n : ℕ) (new 
       let w : new ≡ laid budget (drop used old) ys = rw m at (l .buffer-is) in
       let c : room limit ≡ used + (limit - used) = omega arith in
       let third : getD (take used old ++ new) (used + 2) 0 ≡ getD ys 2 0 =
-      ap (λ (j : ℕ). getD (take used old ++ new) (j + 2) 0) (sym u) ∙ getD-append-add (take used old) new 2 0 ∙ third-of budget (drop used old) ys new w (omega arith) in
+      ap (λ (j : ℕ). getD (take used old ++ new) (j + 2) 0) (sym u) ∙ getD-append-add (take used old) new 2 0
+      ∙ third-of budget (drop used old) ys new w (omega arith) in
       record {
         placed = record {
           length-is = l .length-is;
@@ -143,14 +148,17 @@ module _ (a : Answer) (budget limit used : ℕ) (old : List ℕ) (n : ℕ) (new 
       }
 
   -- the same, as a part of a buffer that was lent comes back: `take` to the end, and nothing after it
-  pub in-the-tail : 4 ≤ length (a .reply) → length (a .reply) ≤ room budget → 8 ≤ budget → budget ≤ limit - used → room limit ≤ length old → Answers budget a (take (length old - used) (drop used old)) n new mem
-      → PartAnswers a budget limit used old (record { len = n; fine = eqb (getD (take used old ++ (new ++ drop (length old - used) (drop used old))) (used + 2) 0) 0 })
+  pub in-the-tail : 4 ≤ length (a .reply) → length (a .reply) ≤ room budget → 8 ≤ budget → budget ≤ limit - used → room limit ≤ length old
+      → Answers budget a (take (length old - used) (drop used old)) n new mem
+      → PartAnswers a budget limit used old
+      (record { len = n; fine = eqb (getD (take used old ++ (new ++ drop (length old - used) (drop used old))) (used + 2) 0) 0 })
       (take used old ++ (new ++ drop (length old - used) (drop used old))) mem
   in-the-tail four short b f k l =
       let e : length (drop used old) ≤ length old - used = rw length-drop (omega arith) in
       rw (drop-of-length-le (drop used old) e, append-nil) (in-place four short b f k (rw (take-all (length old - used) (drop used old) e) at l))
 
-  module _ (short : length (a .reply) ≤ room budget) (small : budget < 8) (scratch : List ℕ) (eight : length scratch ≡ 8) (l : Answers budget a scratch n new mem) where
+  module _ (short : length (a .reply) ≤ room budget) (small : budget < 8) (scratch : List ℕ) (eight : length scratch ≡ 8)
+      (l : Answers budget a scratch n new mem) where
     abbrev eight-room : room budget ≡ 8
     eight-room = omega arith
 
@@ -172,5 +180,6 @@ module _ (scratch new : List ℕ) (n : ℕ) (l : Laid 0 (fail envelopeService no
   pub refused-copied : (limit used : ℕ) (old : List ℕ) (r : PartReply) (end : List ℕ) → Copied (take n new) limit used old r end
       → Copied (fail envelopeService notSupported) limit used old r end
   refused-copied limit used old r end w =
-      let t : take n new ≡ fail envelopeService notSupported = rw (l .buffer-is, l .length-is) (take-laid (room 0) scratch (fail envelopeService notSupported)) in
+      let t : take n new ≡ fail envelopeService notSupported = rw (l .buffer-is, l .length-is)
+      (take-laid (room 0) scratch (fail envelopeService notSupported)) in
       rw t at w

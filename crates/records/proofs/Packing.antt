@@ -39,5 +39,6 @@ module _ (tags : List Tag) (rows : List Row) (n : ℕ) (packed : List Row) (pack
       packed-entry = ap meant packed-all
 
       -- so what `message` promises over the packed rows, it promises over the tags
-      pub packed-message : (r : Outcome) (buffer′ memory′ : List ℕ) → Enters (meant (take n packed)) r buffer′ memory′ → Enters (meant (rowsOf tags)) r buffer′ memory′
+      pub packed-message : (r : Outcome) (buffer′ memory′ : List ℕ) → Enters (meant (take n packed)) r buffer′ memory′
+          → Enters (meant (rowsOf tags)) r buffer′ memory′
       packed-message r buffer′ memory′ = subst (λ (e : Entered). Enters e r buffer′ memory′) packed-entry

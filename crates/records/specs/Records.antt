@@ -11,7 +11,8 @@ use Rattle.records.specs.declared.Lookup.{Lookup}
 
 -- twelve words, in the order of the table
 abbrev pub rowOf : Tag → Row
-rowOf t = t .scope ∷ t .«name_start» ∷ t .«name_length» ∷ t .id ∷ t .ty ∷ getD (t .lengths) 0 0 ∷ getD (t .lengths) 1 0 ∷ getD (t .lengths) 2 0 ∷ t .elements ∷ t .access ∷ t .alias ∷ t .offset ∷ []
+rowOf t = t .scope ∷ t .«name_start» ∷ t .«name_length» ∷ t .id ∷ t .ty ∷ getD (t .lengths) 0 0 ∷ getD (t .lengths) 1 0 ∷ getD
+    (t .lengths) 2 0 ∷ t .elements ∷ t .access ∷ t .alias ∷ t .offset ∷ []
 
 abbrev pub tagOf : Row → Tag
 tagOf r = record {

@@ -79,7 +79,8 @@ module _ (structures members programs tags : List Row) (names tagNames : List �
 
   module _ (i : ℕ) (h : i < length tags) where
     pub tabled-elements : 0 < tagElements (getD tags i [])
-    tabled-elements = tag-elements (tablesOf structures members programs tags (tabled .others) names tagNames (tabled .templates)) (tabled .memory) (tabled .ok) i h .0
+    tabled-elements = tag-elements (tablesOf structures members programs tags (tabled .others) names tagNames (tabled .templates)) (tabled .memory)
+        (tabled .ok) i h .0
 
     pub tabled-standing : (f : Flags) (g : Place) → placeOf g ≡ wholeRow i (getD tags i []) → Standing structures members names (placeOf g)
     unfolding wholeTag wholeRow
@@ -94,19 +95,23 @@ module _ (structures members programs tags : List Row) (names tagNames : List �
       stands = tag-stands (tablesOf structures members programs tags (tabled .others) names tagNames (tabled .templates)) f (tabled .memory) (tabled .ok) i h;
     })
 
-module _ (structures members programs tags : List Row) (names tagNames : List ℕ) (f : Flags) (path : List ℕ) (r : Start) (begun : BeginsPath programs names tags tagNames f path r) where
+module _ (structures members programs tags : List Row) (names tagNames : List ℕ) (f : Flags) (path : List ℕ) (r : Start)
+    (begun : BeginsPath programs names tags tagNames f path r) where
   abbrev Result : Resolved → Type 0
   Result = Resolves structures members programs tags names tagNames f path
 
-  of-left : (x : Resolved) → ((others : List Row) (templates : List ℕ) → Answers structures (resolve (tablesOf structures members programs tags others names tagNames templates) f (left path 0)) x) → Result x
+  of-left : (x : Resolved) → ((others : List Row) (templates : List ℕ)
+      → Answers structures (resolve (tablesOf structures members programs tags others names tagNames templates) f (left path 0)) x) → Result x
   of-left x h = record {
     is = λ others templates l s.
-        subst (λ k. Answers structures (resolve (tablesOf structures members programs tags others names tagNames templates) f k) x) (left-whole path l s) (h others templates);
+        subst (λ k. Answers structures (resolve (tablesOf structures members programs tags others names tagNames templates) f k) x) (left-whole path l s)
+        (h others templates);
   }
 
   pub resolve-start : (s : Status) → r ≡ start.Turned s → Result (Turned s)
   resolve-start s e =
-      of-left (Turned s) (λ others templates. sym (rw e at (begun .is (tablesOf structures members programs tags others names tagNames templates) refl refl refl refl)))
+      of-left (Turned s) (λ others templates. sym
+      (rw e at (begun .is (tablesOf structures members programs tags others names tagNames templates) refl refl refl refl)))
 
   module _ (i next : ℕ) (e : r ≡ start.At i next) where
     inside : (i < length tags) × (isSome (segmentsFrom path next) ≡ true)
@@ -118,8 +123,10 @@ module _ (structures members programs tags : List Row) (names tagNames : List �
     pub resolve-rest : isSome (segmentsFrom path next) ≡ true
     resolve-rest = inside .1
 
-    module _ (first : Place) (m : Moved) (whole : placeOf first ≡ wholeRow i (getD tags i [])) (walks : movedOf m ≡ walked structures members names f path next (placeOf first)) where
-      resolve-is : (others : List Row) (templates : List ℕ) → resolve (tablesOf structures members programs tags others names tagNames templates) f (left path 0) ≡ movedOf m
+    module _ (first : Place) (m : Moved) (whole : placeOf first ≡ wholeRow i (getD tags i []))
+        (walks : movedOf m ≡ walked structures members names f path next (placeOf first)) where
+      resolve-is : (others : List Row) (templates : List ℕ)
+          → resolve (tablesOf structures members programs tags others names tagNames templates) f (left path 0) ≡ movedOf m
       unfolding wholeTag wholeRow
       resolve-is others templates =
           let t = tablesOf structures members programs tags others names tagNames templates in
@@ -196,7 +203,8 @@ either-join : (a b d : Bool) → either (either a b) d ≡ either a (either b d)
 either-join true b d = refl
 either-join false b d = refl
 
-denied-is : (t : Tables) (f : Flags) (writes : Bool) (g : Defined) → deniedTo (t .structures) (t .members) f writes (g .access) (g .type) ≡ isDenied t f writes g
+denied-is : (t : Tables) (f : Flags) (writes : Bool) (g : Defined)
+    → deniedTo (t .structures) (t .members) f writes (g .access) (g .type) ≡ isDenied t f writes g
 unfolding deniedTo refusedTo isDenied refusesLocals
 denied-is t f writes g = either-join (eqb (g .access) 3) (both writes (eqb (g .access) 2)) _
 
@@ -214,7 +222,8 @@ module _ (structures members programs tags : List Row) (names tagNames path : Li
         rw a;
   }
 
-  module _ (g : Target) (e : r ≡ Found g) (b : Bool) (tested : b ≡ deniedTo structures members f writes (g .access) (g .ty)) (others : List Row) (templates : List ℕ) (l : List Segment) (k : segments path ≡ some l) where
+  module _ (g : Target) (e : r ≡ Found g) (b : Bool) (tested : b ≡ deniedTo structures members f writes (g .access) (g .ty)) (others : List Row)
+      (templates : List ℕ) (l : List Segment) (k : segments path ≡ some l) where
     abbrev tables : Tables
     tables = tablesOf structures members programs tags others names tagNames templates
 
@@ -230,7 +239,8 @@ module _ (structures members programs tags : List Row) (names tagNames path : Li
 
     granted-as : b ≡ false → FoundAs structures (tagTarget tables f writes l) g
     unfolding tagTarget permitted
-    granted-as off = let n = denied-to (found-as .lengths) ∙ off in record { lengths = found-as .lengths; is = rw (found-as .is, n); size-is = found-as .size-is }
+    granted-as off = let n = denied-to (found-as .lengths) ∙ off in
+        record { lengths = found-as .lengths; is = rw (found-as .is, n); size-is = found-as .size-is }
 
   module _ (g : Target) (e : r ≡ Found g) (b : Bool) (tested : b ≡ deniedTo structures members f writes (g .access) (g .ty)) where
     pub target-denied : b ≡ true → Permitted (Turned Denied)
@@ -243,7 +253,8 @@ pub ruleset targets = (target-turned, target-denied, target-found)
 
 -- ---- a found target lies in tag memory, whatever its length is
 
-pub found-aimed : (structures members programs tags others : List Row) (names tagNames templates path : List ℕ) (f : Flags) (writes : Bool) (g : Target) (memory : ℕ)
+pub found-aimed : (structures members programs tags others : List Row) (names tagNames templates path : List ℕ) (f : Flags) (writes : Bool) (g : Target)
+    (memory : ℕ)
     → valid (tablesOf structures members programs tags others names tagNames templates) memory ≡ true → isSome (segments path) ≡ true
     → Targets structures members programs tags names tagNames f writes path (Found g) → Aimed structures memory g
 found-aimed structures members programs tags others names tagNames templates path f writes g memory ok decodes r =

@@ -112,7 +112,8 @@ module _ (ns : List ℕ) where
         (λ w. rw (t, u, w) (omega (
           arith,
           row-two (v .second) (v .third) (length1 ns) (length2 ns),
-          position-below 0 (v .second ∷ v .third ∷ []) (length1 ns ∷ length2 ns ∷ []) refl (below-two (v .second) (v .third) (length1 ns) (length2 ns) ∙ (rw (u, w) at below)),
+          position-below 0 (v .second ∷ v .third ∷ []) (length1 ns ∷ length2 ns ∷ []) refl
+              (below-two (v .second) (v .third) (length1 ns) (length2 ns) ∙ (rw (u, w) at below)),
         )))
         (λ w. rw (t, u, w) (omega (
           arith,
@@ -121,7 +122,8 @@ module _ (ns : List ℕ) where
               (below-three (v .first) (v .second) (v .third) (length1 ns) (length2 ns) (length3 ns) ∙ (rw (u, w) at below)),
         ))))
 
-pub index-is : (g : Place) (structures members : List Row) (names es : List ℕ) → indexOf structures g (lead noValues es) ≡ index (onWalk structures members names) es (placeOf g)
+pub index-is : (g : Place) (structures members : List Row) (names es : List ℕ)
+    → indexOf structures g (lead noValues es) ≡ index (onWalk structures members names) es (placeOf g)
 unfolding indexOf index elementsFrom
 index-is g structures members names es =
     let ns = g .lengths in

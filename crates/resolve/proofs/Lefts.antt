@@ -109,7 +109,8 @@ pub record Running (path : List ℕ) (from : ℕ) (count first second third at :
 pub run-start : (path : List ℕ) (from : ℕ) → isSome (segmentsFrom path from) ≡ true → Running path from 0 0 0 0 from
 run-start path from d = record { decodes = d; few = omega arith; values-are = refl; rest-is = refl }
 
-module _ (path : List ℕ) (from count first second third at : ℕ) (here : Running path from count first second third at) (r : Segment) (found : Decoded path at r) (q : Found) (is : q ≡ elementIn r) where
+module _ (path : List ℕ) (from count first second third at : ℕ) (here : Running path from count first second third at) (r : Segment)
+    (found : Decoded path at r) (q : Found) (is : q ≡ elementIn r) where
   module _ (x next : ℕ) (more : q ≡ Of x next) where
     at-element : segmentAt path at ≡ step (element x) next
     at-element = found-at path at r found (Element x next) (element-is r x next (sym is ∙ more))
@@ -134,7 +135,8 @@ module _ (path : List ℕ) (from count first second third at : ℕ) (here : Runn
     pub run-less : length (left path next) < length (left path at)
     run-less = rw (left-step path at (here .decodes) (element x) next at-element) (omega arith)
 
-  stopped : (s : Defined) (next : ℕ) → elementOf s ≡ none → segmentAt path at ≡ step s next → (leading (left path at) ≡ []) × (behind (left path at) ≡ left path at)
+  stopped : (s : Defined) (next : ℕ) → elementOf s ≡ none → segmentAt path at ≡ step s next
+      → (leading (left path at) ≡ []) × (behind (left path at) ≡ left path at)
   unfolding leading behind
   stopped s next n e = let l = left-step path at (here .decodes) s next e in (rw (l, n), rw (l, n))
 

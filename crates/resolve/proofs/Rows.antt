@@ -29,7 +29,8 @@ use Rattle.resolve.specs.Members.{amongBy, amongMembers, memberMove}
 -- ---- the row that a lookup found
 
 first-inside : (p : Row → Bool) (rows : List Row) (i : ℕ) → first p rows ≡ some i → i < length rows
-first-inside p rows i = scan-all p (λ o. o ≡ some i → i < length rows) some none 0 rows (λ e. clash (cc e)) (λ j h e. let k : j ≡ i = cc e in omega (arith, h, k))
+first-inside p rows i = scan-all p (λ o. o ≡ some i → i < length rows) some none 0 rows (λ e. clash (cc e))
+    (λ j h e. let k : j ≡ i = cc e in omega (arith, h, k))
 
 pub member-inside : (members : List Row) (names name : List ℕ) (i : ℕ) → memberIn members names name ≡ some i → i < length members
 unfolding memberIn

@@ -72,7 +72,8 @@ module _ (tags : List Row) (tagNames : List ℕ) (f : Flags) (path : List ℕ) (
   abbrev Scoped : Start → Type 0
   Scoped = Begins tags tagNames f path (inScopeOf scope) at
 
-  named-by : (name : List ℕ) (next : ℕ) → segmentAt path at ≡ step (symbol name) next → (o : Option ℕ) → tagIn tags tagNames scope name ≡ o → Scoped (startAt PathError o next)
+  named-by : (name : List ℕ) (next : ℕ) → segmentAt path at ≡ step (symbol name) next → (o : Option ℕ) → tagIn tags tagNames scope name ≡ o
+      → Scoped (startAt PathError o next)
   unfolding inScope
   named-by name next e none g = record { is = λ t p q. rw (left-step path at decodes (symbol name) next e, p, q, g); inside = tt }
   named-by name next e (some i) g = record {
@@ -80,7 +81,8 @@ module _ (tags : List Row) (tagNames : List ℕ) (f : Flags) (path : List ℕ) (
     inside = (tag-inside tags tagNames scope name i g, segments-rest path at (symbol name) next e decodes);
   }
 
-  stray-by : (s : Defined) (next : ℕ) → nameOf s ≡ none → classOf s ≡ none → segmentAt path at ≡ step s next → (l : List Defined) → left path next ≡ l → Scoped (Turned PathError)
+  stray-by : (s : Defined) (next : ℕ) → nameOf s ≡ none → classOf s ≡ none → segmentAt path at ≡ step s next → (l : List Defined) → left path next ≡ l
+      → Scoped (Turned PathError)
   unfolding inScope
   stray-by s next n c e [] h = record { is = λ t p q. rw (left-step path at decodes s next e, n, h); inside = tt }
   stray-by s next n c e (u ∷ l) h = record { is = λ t p q. rw (left-step path at decodes s next e, n, h, c); inside = tt }
@@ -97,7 +99,8 @@ module _ (tags : List Row) (tagNames : List ℕ) (f : Flags) (path : List ℕ) (
     unfolding inScope
     no-instance s n z g = record { is = λ t p q. rw (left-step path at decodes (class c) next e, left-step path next rest-decodes s n g, z); inside = tt }
 
-    instance-by : (id n : ℕ) → segmentAt path next ≡ step (instance id) n → eqb c 0x6B ≡ true → takesInstances f ≡ true → (o : Option ℕ) → idIn tags scope id ≡ o
+    instance-by : (id n : ℕ) → segmentAt path next ≡ step (instance id) n → eqb c 0x6B ≡ true → takesInstances f ≡ true → (o : Option ℕ)
+        → idIn tags scope id ≡ o
         → Scoped (startAt PathUnknown o n)
     unfolding inScope
     instance-by id n g y w none h =
@@ -112,8 +115,15 @@ module _ (tags : List Row) (tagNames : List ℕ) (f : Flags) (path : List ℕ) (
     instance-at id n g =
         by-test (eqb c 0x6B)
         (λ y. by-test (takesInstances f) (λ w. rw (y, w) (instance-by id n g y w (idIn tags scope id) refl))
-        (λ w. rw (y, w) (record { is = λ t p q. rw (left-step path at decodes (class c) next e, left-step path next rest-decodes (instance id) n g, y, w); inside = tt })))
-        (λ y. rw y (record { is = λ t p q. rw (left-step path at decodes (class c) next e, left-step path next rest-decodes (instance id) n g, y); inside = tt }))
+        (λ w. rw (y, w) (record {
+          is = λ t p q. rw (left-step path at decodes (class c) next e, left-step path next rest-decodes (instance id) n g, y, w);
+          inside = tt;
+        })))
+        (λ y. rw y (record {
+          is = λ t p q. rw (left-step path at decodes (class c) next e, left-step path next rest-decodes (instance id) n g, y);
+          inside =
+              tt;
+        }))
 
     class-by : (second : Segment) → segmentAt path next ≡ stepOf path second → Scoped (instanceStart tags f scope c second)
     unfolding inScope
@@ -131,7 +141,8 @@ module _ (tags : List Row) (tagNames : List ℕ) (f : Flags) (path : List ℕ) (
     scope-name start n next name r g e p =
         rw (p, e) (named-by (part path start n) next (found-at path at s found (Symbol start n next) g) (tagIn tags tagNames scope (part path start n)) refl)
 
-    pub scope-class : (c next : ℕ) (second : Segment) (r : Start) → s ≡ Class c next → Decoded path next second → r ≡ instanceStart tags f scope c second → Scoped r
+    pub scope-class : (c next : ℕ) (second : Segment) (r : Start) → s ≡ Class c next → Decoded path next second → r ≡ instanceStart tags f scope c second
+        → Scoped r
     scope-class c next second r g d p = rw p (class-by c next (found-at path at s found (Class c next) g) second (sym (d .is)))
 
     pub scope-port : (next : ℕ) → s ≡ Port next → Scoped (Turned PathError)
@@ -165,7 +176,8 @@ module _ (programs : List Row) (names name : List ℕ) (v : Found) (is : v ≡ f
     pub program-found : (k scope : ℕ) (r : Start) → v ≡ found.At k → scope ≡ k + 1 → Begins tags tagNames f path (inScopeOf scope) at r → Programmed r
     program-found k scope r e g b =
         let z : scope ≡ suc k = g ∙ add-one k in
-        rw (found-some (programIn programs names name) v k is e) (record { is = λ t p q. b .is t p q ∙ ap (λ (n : ℕ). inScope t f n (left path at)) z; inside = b .inside })
+        rw (found-some (programIn programs names name) v k is e)
+        (record { is = λ t p q. b .is t p q ∙ ap (λ (n : ℕ). inScope t f n (left path at)) z; inside = b .inside })
 
     pub program-none : v ≡ found.Nothing → Programmed (Turned PathError)
     program-none e = rw (found-none (programIn programs names name) v is e) (record { is = λ t p q. refl; inside = tt })
@@ -247,7 +259,8 @@ module _ (path : List ℕ) (decodes : isSome (segmentsFrom path 0) ≡ true) whe
           prefix-program h = record {
             fits = omega (arith, name-at path 0 s found start n next g, prefix-long);
             decodes = segments-rest path 0 _ next here decodes;
-            is = λ t f. let a = drop-part 8 start n path prefix-long (name-at path 0 s found start n next g) in rw (← a, all, ← part-is, ← tested, on, not-last h (left path next) refl);
+            is = λ t f. let a = drop-part 8 start n path prefix-long (name-at path 0 s found start n next g) in
+                rw (← a, all, ← part-is, ← tested, on, not-last h (left path next) refl);
           }
 
 pub ruleset prefixes = (prefix-port, prefix-class, prefix-instance, prefix-element, prefix-attribute, prefix-none, prefix-last, prefix-other, prefix-program)
@@ -262,7 +275,8 @@ module _ (programs : List Row) (names : List ℕ) (tags : List Row) (tagNames : 
     inside = b .inside;
   }
 
-  pub whole-plain : (x : Prefix) → Prefixed path x → x ≡ Nothing → Begins tags tagNames f path (inScopeOf 0) 0 r → BeginsPath programs names tags tagNames f path r
+  pub whole-plain : (x : Prefix) → Prefixed path x → x ≡ Nothing → Begins tags tagNames f path (inScopeOf 0) 0 r
+      → BeginsPath programs names tags tagNames f path r
   whole-plain x a z b = record {
     is = λ t u v p q. let h : Prefixed path Nothing = subst (Prefixed path) z a in b .is t p q ∙ h t f;
     inside = b .inside;

@@ -44,7 +44,8 @@ pub record Resolves (structures members programs tags : List Row) (names tagName
       → Answers structures (resolve (tablesOf structures members programs tags others names tagNames templates) f l) r
 
 -- the same for a service that writes or does not
-pub record Targets (structures members programs tags : List Row) (names tagNames : List ℕ) (f : Flags) (writes : Bool) (path : List ℕ) (r : Resolved) : Type 0 where
+pub record Targets (structures members programs tags : List Row) (names tagNames : List ℕ) (f : Flags) (writes : Bool) (path : List ℕ)
+    (r : Resolved) : Type 0 where
   pub is : (others : List Row) (templates : List ℕ) (l : List Segment) → segments path ≡ some l
       → Answers structures (tagTarget (tablesOf structures members programs tags others names tagNames templates) f writes l) r
 

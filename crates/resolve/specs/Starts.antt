@@ -62,7 +62,8 @@ pub record Begins (tags : List Row) (tagNames : List ℕ) (f : Flags) (path : Li
   pub inside : StartInside tags path r
 
 pub record BeginsPath (programs : List Row) (names : List ℕ) (tags : List Row) (tagNames : List ℕ) (f : Flags) (path : List ℕ) (r : Start) : Type 0 where
-  pub is : (t : Tables) → t .programs ≡ programs → t .names ≡ names → t .tags ≡ tags → t .tagNames ≡ tagNames → afterwards t f path r ≡ resolve t f (left path 0)
+  pub is : (t : Tables) → t .programs ≡ programs → t .names ≡ names → t .tags ≡ tags → t .tagNames ≡ tagNames
+      → afterwards t f path r ≡ resolve t f (left path 0)
   pub inside : StartInside tags path r
 
 -- a program's name, without its prefix, stands in the path

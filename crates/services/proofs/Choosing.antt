@@ -36,7 +36,8 @@ object-is : (path : List ℕ) (o : Object) (l : List Segment) → ObjectAt path 
 object-is path (Of c i next) l h s = let e : l ≡ class c ∷ (instance i ∷ h .rest) = cc (s, h .is) in rw e
 object-is path Nothing l h s = h l s
 
-module _ (structures members programs tags others : List Row) (names tagNames templates : List ℕ) (f : Flags) (memory : List ℕ) (service : ℕ) (path body : List ℕ) (limit : ℕ)
+module _ (structures members programs tags others : List Row) (names tagNames templates : List ℕ) (f : Flags) (memory : List ℕ) (service : ℕ)
+    (path body : List ℕ) (limit : ℕ)
     (old : List ℕ) (r : ℕ) (new : List ℕ) where
   abbrev tables : Tables
   tables = tablesOf structures members programs tags others names tagNames templates
@@ -44,7 +45,8 @@ module _ (structures members programs tags others : List Row) (names tagNames te
   abbrev By : (after : List ℕ) → Type 0
   By after = OnPath path limit (λ l. byService tables f memory service l body limit) old r new after
 
-  pub by-page : service ≡ 0x55 → valid tables (length memory) ≡ true → Lists structures programs tags others names tagNames service path body limit old r new → By memory
+  pub by-page : service ≡ 0x55 → valid tables (length memory) ≡ true → Lists structures programs tags others names tagNames service path body limit old r new
+      → By memory
   unfolding byService
   by-page e ok h = record {
     is = λ l s. rw (eq-eqb service 0x55 e) (laid-answers limit _ old r new memory (h .is members templates (length memory) ok l s));
@@ -94,7 +96,8 @@ module _ (structures members programs tags others : List Row) (names tagNames te
     pub plain-symbols : (i : ℕ) → w ≡ own.SymbolList i → Laid limit (capped service limit (symbolAttributes tables service i body)) old r new → Plain memory
     plain-symbols i e h = plain-own memory (λ l s. rw e (laid-answers limit _ old r new memory h))
 
-    pub plain-structures : (i : ℕ) → w ≡ own.StructureList i → Laid limit (capped service limit (structureAttributes structures service i body)) old r new → Plain memory
+    pub plain-structures : (i : ℕ) → w ≡ own.StructureList i → Laid limit (capped service limit (structureAttributes structures service i body)) old r new
+        → Plain memory
     plain-structures i e h = plain-own memory (λ l s. rw e (laid-answers limit _ old r new memory h))
 
     pub plain-template : (i : ℕ) → w ≡ own.Template i → Laid limit (readTemplate tables service (templateIn structures i) body limit) old r new → Plain memory

@@ -33,13 +33,15 @@ use Rattle.services.specs.Answers.{Answers, OnPath}
 use Rattle.services.specs.Services.{onFound}
 
 -- a reply that leaves tag memory as it was
-pub laid-answers : (limit : ℕ) (bytes old : List ℕ) (r : ℕ) (new memory : List ℕ) → Laid limit bytes old r new → Answers limit (answered bytes memory) old r new memory
+pub laid-answers : (limit : ℕ) (bytes old : List ℕ) (r : ℕ) (new memory : List ℕ) → Laid limit bytes old r new
+    → Answers limit (answered bytes memory) old r new memory
 laid-answers limit bytes old r new memory h = record { length-is = h .length-is; buffer-is = h .buffer-is; memory-is = refl }
 
 -- a write's answer, by its status
 stored-answers : (limit service : ℕ) (s : Stored) (old : List ℕ) (r : ℕ) (new before after : List ℕ) (status : Status)
     → Stores s before status after → Laid limit (fail service (statusOf status)) old r new → Answers limit (storeAnswer service s before) old r new after
-stored-answers limit service s old r new before after status k h = rw (k .answer-is service) (laid-answers limit (fail service (statusOf status)) old r new after h)
+stored-answers limit service s old r new before after status k h = rw (k .answer-is service)
+    (laid-answers limit (fail service (statusOf status)) old r new after h)
 
 module _ (structures : List Row) (memory : List ℕ) (service : ℕ) (g : Target) (body : List ℕ) (limit : ℕ) (old : List ℕ) (r : ℕ) (new : List ℕ) where
   abbrev Served : (after : List ℕ) → Type 0
@@ -60,8 +62,10 @@ pub ruleset serving = (serve-read, serve-masked, serve-written)
 
 -- ---- on a path
 
-module _ (structures members programs tags others : List Row) (names tagNames templates : List ℕ) (f : Flags) (memory : List ℕ) (service : ℕ) (path body : List ℕ) (limit : ℕ)
-    (writes : Bool) (is : writes ≡ isWrite service) (resolved : Resolved) (target : Targets structures members programs tags names tagNames f writes path resolved)
+module _ (structures members programs tags others : List Row) (names tagNames templates : List ℕ) (f : Flags) (memory : List ℕ) (service : ℕ)
+    (path body : List ℕ) (limit : ℕ)
+    (writes : Bool) (is : writes ≡ isWrite service) (resolved : Resolved)
+    (target : Targets structures members programs tags names tagNames f writes path resolved)
     (old : List ℕ) (r : ℕ) (new after : List ℕ) where
   abbrev tables : Tables
   tables = tablesOf structures members programs tags others names tagNames templates
@@ -83,13 +87,20 @@ module _ (structures members programs tags others : List Row) (names tagNames te
     is = λ l s.
         let t = rw e at (target .is others templates l s) in
         let n = t .lengths in
-        rw (← is, t .is, read-any-lengths structures memory g n body service limit, write-any-lengths structures memory g n body service, masked-any-lengths structures memory g n body)
+        rw (
+          ← is,
+          t .is,
+          read-any-lengths structures memory g n body service limit,
+          write-any-lengths structures memory g n body service,
+          masked-any-lengths structures memory g n body,
+        )
         h;
   }
 
 module _ (structures members programs tags others : List Row) (names tagNames templates path : List ℕ) (f : Flags) (writes : Bool) (memory : ℕ)
     (ok : valid (tablesOf structures members programs tags others names tagNames templates) memory ≡ true) (decodes : isSome (segments path) ≡ true) where
-  pub tag-aimed : (g : Target) (resolved : Resolved) → resolved ≡ Found g → Targets structures members programs tags names tagNames f writes path resolved → Aimed structures memory g
+  pub tag-aimed : (g : Target) (resolved : Resolved) → resolved ≡ Found g → Targets structures members programs tags names tagNames f writes path resolved
+      → Aimed structures memory g
   tag-aimed g resolved e target =
       found-aimed structures members programs tags others names tagNames templates path f writes g memory ok decodes
       (subst (Targets structures members programs tags names tagNames f writes path) e target)

@@ -35,8 +35,8 @@ use Rattle.continued.proofs.Entries.{bytes-append, bytes-some, fitting-le, fitt
 use Rattle.services.specs.Answers.{Answers}
 use Rattle.whole.specs.declared.joins.Turn.{Turn}
 use Rattle.whole.specs.declared.joins.Turn.the-variants.{Last, More}
-use Rattle.whole.specs.declared.walks.Start.{Start}
-use Rattle.whole.specs.declared.walks.Start.the-variants.{At, Nowhere}
+use Rattle.whole.specs.declared.walks.PageStart.{PageStart}
+use Rattle.whole.specs.declared.walks.PageStart.the-variants.{At, Nowhere}
 use Rattle.whole.specs.Lists.{listRequest, longest, behind, lastPage}
 use Rattle.whole.specs.Turns.{Askable, Granted, StartsAt, BringsPage, Page}
 use Rattle.whole.proofs.Asking.{askable-short, list-keeps, list-granted}
@@ -295,7 +295,7 @@ module _ {all left : List Entry} {limit got : ℕ} {start out : List ℕ} (j : J
           let same : left ≡ lastPage limit all = sym (last-done limit left (brought (Last n) e .2)) ∙ j .ends in
           lies ∙ laid-drop (room limit) old first _ (kept .0) ∙ ap (λ (l : List Entry). laid (room limit) first (pageReply 0x55 l limit)) same
 
-module _ (t : Tables) (scope : ℕ) (attributes : List ℕ) (start : ℕ) (listed left : List Entry) (s : Start)
+module _ (t : Tables) (scope : ℕ) (attributes : List ℕ) (start : ℕ) (listed left : List Entry) (s : PageStart)
     (at : StartsAt t scope attributes start listed left s) where
   pub starts-known : (id : ℕ) → s ≡ At id → due t scope attributes id ≡ left
   starts-known id q = let a : StartsAt t scope attributes start listed left (At id) = rw q at at in a .1

@@ -125,7 +125,8 @@ module _ (structures members programs tags others : List Row) (names tagNames te
   unfolding sizedOf
   size-turned s e =
       size-target tables f memory path elements c checked n decodes b tests Nothing tag
-      (λ l d. let a : Answers structures (tagTarget tables f false l) (Turned s) = subst (Answers structures _) e (resolved .is others templates l d) in rw a refl)
+      (λ l d. let a : Answers structures (tagTarget tables f false l) (Turned s) = subst (Answers structures _) e (resolved .is others templates l d) in
+      rw a refl)
 
   module _ (g : Target) (e : r ≡ Found g) (ok : valid tables (length memory) ≡ true) where
     pub size-aimed : Aimed structures (length memory) g

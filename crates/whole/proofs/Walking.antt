@@ -29,8 +29,8 @@ use Rattle.listing.specs.declared.pages.Step.{Step}
 use Rattle.listing.specs.declared.pages.Step.the-variants.{More, Full, Done}
 use Rattle.listing.proofs.Filled.{further-more}
 use Rattle.whole.specs.declared.walks.Measure.the-variants.{Total, Narrow}
-use Rattle.whole.specs.declared.walks.Start.{Start}
-use Rattle.whole.specs.declared.walks.Start.the-variants.{At, Nowhere}
+use Rattle.whole.specs.declared.walks.PageStart.{PageStart}
+use Rattle.whole.specs.declared.walks.PageStart.the-variants.{At, Nowhere}
 use Rattle.whole.specs.Lists.{longest}
 use Rattle.whole.specs.Turns.{Measured, nextId, startBy, StartsAt}
 
@@ -272,6 +272,6 @@ module _ (t : Tables) (scope : ℕ) (attributes : List ℕ) (start bound : ℕ) 
   starts-by (Tag i id) (tag-due h q e) = here
   starts-by (Other i id) (other-due h q e) = here
 
-  pub starts-next : (memory : ℕ) → valid t memory ≡ true → (r : Start) → r ≡ startBy bound (nextIn (t .tags) (t .others) scope bound)
+  pub starts-next : (memory : ℕ) → valid t memory ≡ true → (r : PageStart) → r ≡ startBy bound (nextIn (t .tags) (t .others) scope bound)
       → StartsAt t scope attributes start listed left r
   starts-next memory v r e = rw e (starts-by _ (next-due scope attributes t memory v bound))

@@ -26,8 +26,8 @@ use Rattle.whole.specs.declared.lists.Asked.{Asked}
 use Rattle.whole.specs.declared.lists.Asked.the-variants as asked
 use Rattle.whole.specs.declared.walks.Measure.{Measure}
 use Rattle.whole.specs.declared.walks.Measure.the-variants.{Total, Narrow}
-use Rattle.whole.specs.declared.walks.Start.{Start}
-use Rattle.whole.specs.declared.walks.Start.the-variants.{At, Nowhere}
+use Rattle.whole.specs.declared.walks.PageStart.{PageStart}
+use Rattle.whole.specs.declared.walks.PageStart.the-variants.{At, Nowhere}
 use Rattle.whole.specs.declared.joins.Turn.{Turn}
 use Rattle.whole.specs.declared.joins.Turn.the-variants.{Last, More}
 use Rattle.whole.specs.Lists.{isAskable, scopeNamed, scopeOf, longest}
@@ -86,13 +86,13 @@ nextId start [] = start
 nextId start (e ∷ es) = nextId (suc (idOf e)) es
 
 -- a bound that something is due from is a start ID
-abbrev pub startBy : (bound : ℕ) → Next → Start
+abbrev pub startBy : (bound : ℕ) → Next → PageStart
 startBy bound (Tag i id) = At bound
 startBy bound (Other i id) = At bound
 startBy bound Nothing = Nowhere
 
 -- the page behind a page starts at the last listed ID plus one, where what is left is due, or nothing is left
-abbrev pub StartsAt : Tables → (scope : ℕ) (attributes : List ℕ) (start : ℕ) (listed left : List Entry) → Start → Type 0
+abbrev pub StartsAt : Tables → (scope : ℕ) (attributes : List ℕ) (start : ℕ) (listed left : List Entry) → PageStart → Type 0
 StartsAt t scope attributes start listed left (At id) = (id ≡ nextId start listed) × (due t scope attributes id ≡ left)
 StartsAt t scope attributes start listed left Nowhere = left ≡ []
 

@@ -1,6 +1,6 @@
 // A request for a page of symbols, its way to the dispatcher, and the pages joined one after the other.
 use crate::joins::Turn;
-use crate::walks::Start;
+use crate::walks::PageStart;
 use cip::codes::SYMBOL_PAGE;
 use cip::replies::HEADER;
 use model::Flags;
@@ -297,11 +297,11 @@ pub fn join_pages(
                     size,
                     buf,
                 ) {
-                    Start::At(id) => {
+                    PageStart::At(id) => {
                         start = id;
                         got = end;
                     }
-                    Start::Nowhere => {
+                    PageStart::Nowhere => {
                         return end;
                     }
                 }

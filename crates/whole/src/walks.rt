@@ -20,7 +20,7 @@ pub enum Measure {
 }
 
 /// Where the next page starts; or nothing is due.
-pub enum Start {
+pub enum PageStart {
     At(u32),
     Nowhere,
 }
@@ -173,18 +173,18 @@ fn start_below(bound: u64, id: u32) -> u32
 }
 
 /// The start ID of a page from a bound on that something is due from.
-fn start_from(tags: &[[u32; 12]], others: &[[u32; 5]], scope: u32, bound: u64) -> Start
+fn start_from(tags: &[[u32; 12]], others: &[[u32; 5]], scope: u32, bound: u64) -> PageStart
     ensures { λ r. ⌜ r ≡ startBy bound (nextIn (now (tags .entry)) (now (others .entry)) scope bound) ⌝ }
 {
     match model::least::next_symbol(tags, others, scope, bound) {
         Next::Tag(_, id) => {
-            return Start::At(start_below(bound, id));
+            return PageStart::At(start_below(bound, id));
         }
         Next::Other(_, id) => {
-            return Start::At(start_below(bound, id));
+            return PageStart::At(start_below(bound, id));
         }
         Next::Nothing => {
-            return Start::Nowhere;
+            return PageStart::Nowhere;
         }
     }
 }
@@ -202,7 +202,7 @@ pub fn next_start(
     n: usize,
     size: usize,
     buf: &mut [u8],
-) -> Start
+) -> PageStart
     requires { ⌜ SomeValid (now structures) (now tags) (now others) (now names) (now «tag_names») × (2 + 2 * n ≤ length (now body)) × (n ≤ 65535)
         × (4 ≤ size) × (size ≤ length (now buf)) ⌝ }
     ensures { λ r. let list = numbers n (drop 2 (now (body .entry))) in

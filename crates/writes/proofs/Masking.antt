@@ -105,7 +105,8 @@ module _ (memory : List ℕ) (g : Target) (body : List ℕ) where
             let l = masks-length in
             (rw ands-are (length-part body (2 + size) size (omega arith)) ∙ sym l, omega arith)
 
-        pub masks-put : (new : List ℕ) → v ≡ true → new ≡ put memory (g .start) (masked (part memory (g .start) (length ors)) ors ands) → Stores (maskedStored memory g body) memory Success new
+        pub masks-put : (new : List ℕ) → v ≡ true → new ≡ put memory (g .start) (masked (part memory (g .start) (length ors)) ors ands)
+            → Stores (maskedStored memory g body) memory Success new
         unfolding maskedStored
         masks-put new e f =
             puts _ _ _ _ _ (rw (← counts, ← wide, le-ltb _ _ long, le-ltb _ _ short, ← asked, e))

@@ -76,7 +76,8 @@ module _ (structures : List Row) (memory : List ℕ) (service : ℕ) (g : Target
       fields-read : given ≡ fieldsOf service body
       fields-read = rw (take-all (length body - k) (drop k body) (simp length-drop (omega arith)), fields) read
 
-      pub writes-bit : (new : List ℕ) (r : Status) → g .bit ≢ noBit → Stores (writeBit memory g given) memory r new → Stores (writeStored structures memory service g body) memory r new
+      pub writes-bit : (new : List ℕ) (r : Status) → g .bit ≢ noBit → Stores (writeBit memory g given) memory r new
+          → Stores (writeStored structures memory service g body) memory r new
       unfolding writeStored
       writes-bit new r b d = rw (← fields, le-ltb _ _ long, ne-eqb _ _ b, ← fields-read) d
 
