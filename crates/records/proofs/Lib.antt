@@ -1,3 +1,4 @@
 pub mod Lists
 pub mod Looking
+pub mod Answers
 pub mod Packing

@@ -2,13 +2,12 @@
 -- Assumes nothing.
 use mathlib.Core.Path.{_≡_, refl, sym, ap, _∙_}
 use mathlib.Core.List.{List, [], _∷_}
-use mathlib.Core.Option.{some}
 use Prim.Native.Nat.{ℕ, zero, suc, _≤_, _<_}
 use native.Mathlib.Nat.{not-suc-le-zero, le-of-suc-le-suc}
 use lib.ListN.{length, getD, set, take, drop, length-map, List·getD-map}
 use Rattle.definition.specs.Tables.{Row}
 use Rattle.records.specs.declared.Tag.{Tag}
-use Rattle.records.specs.Records.{rowOf, tagOf, noTag, tagAt, rowAt, rowsOf, lookupOf}
+use Rattle.records.specs.Records.{rowOf, tagOf, noTag, tagAt, rowAt, rowsOf}
 
 -- ---- a row of twelve words and a record with three lengths mean each other
 
@@ -53,12 +52,6 @@ pub rows-set : (ts : List Tag) (i : ℕ) (t : Tag) → rowsOf (set ts i t) ≡ s
 rows-set [] i t = refl
 rows-set (x ∷ ts) zero t = refl
 rows-set (x ∷ ts) (suc i) t = ap {B = List Row} (λ rs. rowOf x ∷ rs) (rows-set ts i t)
-
--- a record that a lookup took from the rows is the record that was packed
-pub looked-record : (ts : List Tag) (i : ℕ) → i < length ts → length (tagAt ts i .lengths) ≡ 3 → lookupOf (rowsOf ts) (some i) .tag ≡ tagAt ts i
-looked-record [] i h e = absurd (not-suc-le-zero h)
-looked-record (t ∷ ts) zero h e = tag-of-row t e
-looked-record (t ∷ ts) (suc i) h e = looked-record ts i (le-of-suc-le-suc h) e
 
 -- ---- packed one after the other
 

@@ -1,32 +1,67 @@
--- The record of the row that a search found.
+-- A search over records, one after the other: the rows from here on have what the search over all of them has.
 -- Assumes nothing.
-use mathlib.Core.Path.{_≡_, ap, _∙_, sym}
+use mathlib.Core.Path.{_≡_, refl, ap, _∙_}
+use mathlib.Core.Bool.{Bool, true, false, not}
 use mathlib.Core.List.{List, []}
 use mathlib.Core.Option.{Option, none, some}
-use Prim.Native.Nat.{ℕ, _<_}
-use lib.ListN.{length}
+use Prim.Native.Nat.{ℕ, _+_, _<_, _≤_}
+use native.Mathlib.Omega.{arith}
+use lib.Dec.{T as Holds}
+use lib.ListN.{length, drop}
+use Rattle.laws.specs.Scan.{scan}
+use Rattle.laws.proofs.Scan.{scan-next, scan-found, scan-none}
 use Rattle.definition.specs.Tables.{Row}
-use Rattle.definition.specs.Lookup.{tagIn, idIn}
-use Rattle.model.specs.Rows.{foundOf}
-use Rattle.model.specs.declared.lookup.Found.{Found}
-use Rattle.model.specs.declared.lookup.Found.the-variants.{At, Nothing}
-use Rattle.model.proofs.Cases.{found-some, found-none}
-use Rattle.resolve.proofs.Rows.{tag-inside, id-inside}
+use Rattle.records.specs.declared.Tag.{Tag}
 use Rattle.records.specs.declared.Lookup.{Lookup}
-use Rattle.records.specs.Records.{lookupOf}
+use Rattle.records.specs.Records.{rowOf, noTag, tagAt, rowsOf, foundAs, lookupOf}
+use Rattle.records.proofs.Lists.{rows-count, rows-at}
 
-module _ (rows : List Row) (v : Found) where
-  module _ (o : Option ℕ) (is : v ≡ foundOf o) (r : Lookup) where
-    pub looked-at : (i : ℕ) → v ≡ At i → r ≡ lookupOf rows (some i) → r ≡ lookupOf rows o
-    looked-at i e g = g ∙ ap (lookupOf rows) (sym (found-some o v i is e))
+on : (b : Bool) → Holds b → b ≡ true
+on true h = refl
+on false h = absurd h
 
-    pub looked-none : v ≡ Nothing → r ≡ lookupOf [] none → r ≡ lookupOf rows o
-    looked-none e g = g ∙ ap (lookupOf rows) (sym (found-none o v is e))
+off : (b : Bool) → Holds (not b) → b ≡ false
+off true h = absurd h
+off false h = refl
 
-  pub named-inside : (tagNames : List ℕ) (scope : ℕ) (name : List ℕ) (i : ℕ) → v ≡ foundOf (tagIn rows tagNames scope name) → v ≡ At i → i < length rows
-  named-inside tagNames scope name i is e = tag-inside rows tagNames scope name i (found-some _ v i is e)
+module _ (p : Row → Bool) (tags : List Tag) where
+  abbrev pub Sought : Option ℕ
+  Sought = scan p some none 0 (rowsOf tags)
 
-  pub numbered-inside : (scope id i : ℕ) → v ≡ foundOf (idIn rows scope id) → v ≡ At i → i < length rows
-  numbered-inside scope id i is e = id-inside rows scope id i (found-some _ v i is e)
+  -- no record before the i-th passes the test
+  abbrev pub Seeking : ℕ → Type 0
+  Seeking i = scan p some none i (drop i (rowsOf tags)) ≡ Sought
 
-pub ruleset looks = (looked-at, looked-none, named-inside, numbered-inside)
+  pub seek-start : Seeking 0
+  seek-start = refl
+
+  module _ (i : ℕ) (here : Seeking i) where
+    module _ (inside : i < length tags) (b : Bool) (tested : b ≡ p (rowOf (tagAt tags i))) where
+      in-rows : i < length (rowsOf tags)
+      in-rows = omega (arith, inside, rows-count tags)
+
+      pub seek-next : Holds (not b) → Seeking (i + 1)
+      seek-next h = scan-next p some none (rowOf noTag) i (rowsOf tags) here in-rows (tested ∙ ap p (rows-at tags i)) (off b h) refl
+
+      pub seek-found : (r : Lookup) → Holds b → r ≡ foundAs i (tagAt tags i) → r ≡ lookupOf tags Sought
+      seek-found r h e =
+          let s : some i ≡ Sought = scan-found p some none (rowOf noTag) i (rowsOf tags) here in-rows (tested ∙ ap p (rows-at tags i)) (on b h) refl in
+          e ∙ ap (lookupOf tags) s
+
+    pub seek-none : length tags ≤ i → (r : Lookup) → r ≡ lookupOf [] none → r ≡ lookupOf tags Sought
+    seek-none h r e =
+        let s : none ≡ Sought = scan-none p some none (rowOf noTag) i (rowsOf tags) here (omega (arith, h, rows-count tags)) in
+        e ∙ ap (lookupOf tags) s
+
+-- where a search is: the next record, and that none before it passes
+pub record Search (p : Row → Bool) (tags : List Tag) : Type 0 where
+  pub i : ℕ
+  pub going : Seeking p tags i
+
+-- no record is looked at yet; the i-th does not pass
+abbrev pub begins : (p : Row → Bool) (tags : List Tag) → Search p tags
+begins p tags = record { i = 0; going = seek-start p tags }
+
+abbrev pub passes-by : (p : Row → Bool) (tags : List Tag) (s : Search p tags) → s .i < length tags
+    → (b : Bool) → b ≡ p (rowOf (tagAt tags (s .i))) → Holds (not b) → Search p tags
+passes-by p tags s h b e z = record { i = s .i + 1; going = seek-next p tags (s .i) (s .going) h b e z }

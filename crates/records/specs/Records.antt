@@ -42,10 +42,14 @@ rowAt rows i = getD rows i (rowOf noTag)
 abbrev pub rowsOf : List Tag → List Row
 rowsOf ts = map rowOf ts
 
--- the place and the record of the row that a search found
-abbrev pub lookupOf : List Row → Option ℕ → Lookup
-lookupOf rows none = record { at = foundOf none; tag = noTag }
-lookupOf rows (some i) = record { at = foundOf (some i); tag = tagOf (getD rows i []) }
+-- the record at a place
+abbrev pub foundAs : ℕ → Tag → Lookup
+foundAs i tag = record { at = foundOf (some i); tag = tag }
+
+-- the place and the record whose row a search found
+abbrev pub lookupOf : List Tag → Option ℕ → Lookup
+lookupOf tags none = record { at = foundOf none; tag = noTag }
+lookupOf tags (some i) = foundAs i (tagAt tags i)
 
 -- n records were packed into rows: as many as there are, or as fit; the rows after them are as they were
 pub record Packs (tags : List Tag) (rows : List Row) (n : ℕ) (packed : List Row) : Type 0 where

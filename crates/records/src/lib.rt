@@ -1,7 +1,7 @@
 // Tags as records with named fields: how a program keeps and lends them, beside the flat rows that the services take.
-// The borrow checker covers no function over a slice of structs, so the four over `&[Tag]` and `&mut [Tag]` stay small and
-// are proved by a walk of their code, with a promise on the records and one on the rows that they mean. A function that
-// takes a `Tag` by value is covered.
+// The borrow checker covers no function over a slice of structs, so those over `&[Tag]` and `&mut [Tag]` stay small and
+// are proved by a walk of their code, with a promise on the records and on the rows that they mean. A function that takes
+// a `Tag` by value is covered: so are the tests and the answers of the two lookups.
 use model::columns::TAG_ACCESS;
 use model::columns::TAG_ALIAS;
 use model::columns::TAG_ELEMENTS;
@@ -21,7 +21,8 @@ ghost use mathlib.Core.Option.{none, some};
 ghost use Prim.Native.Nat.{_<_, min};
 ghost use lib.ListN.{length, set};
 ghost use Rattle.definition.specs.Lookup.{tagIn, idIn};
-ghost use Rattle.records.specs.Records.{rowOf, tagOf, tagAt, rowAt, rowsOf, lookupOf, Packs};
+ghost use Rattle.model.specs.Rows.{tagIs, idIs};
+ghost use Rattle.records.specs.Records.{rowOf, tagOf, tagAt, rowAt, rowsOf, lookupOf, foundAs, Packs};
 
 /// A tag: its scope (0 is the controller, k + 1 program k), its name's place in the store of tag names, its instance ID,
 /// its type word, its array lengths (nonzero first), its elements, its access, its alias mark and its place in tag memory.
@@ -38,7 +39,7 @@ pub struct Tag {
     pub offset: u32,
 }
 
-/// What a lookup found: the row's place in its table, and its record; where there is none, a record of zeros.
+/// What a lookup found: the record's place among those lent, and the record; where there is none, a record of zeros.
 /// (An enum that holds the record would hold its array of lengths, which the borrow checker does not cover.)
 pub struct Lookup {
     pub at: Found,
@@ -150,33 +151,66 @@ fn nothing() -> Lookup
     }
 }
 
-fn lookup_at(rows: &[[u32; 12]], i: usize) -> Lookup
-    requires { ⌜ i < length (now rows) ⌝ }
-    ensures { λ r. ⌜ r ≡ lookupOf (now (rows .entry)) (some i) ⌝ }
+fn found_at(i: usize, tag: Tag) -> Lookup
+    ensures { λ r. ⌜ r ≡ foundAs i tag ⌝ }
 {
-    let tag = tag_of(rows[i]);
     Lookup {
         at: Found::At(i),
         tag: tag,
     }
 }
 
-/// The first tag of that scope and name.
-pub fn tag_named(rows: &[[u32; 12]], tag_names: &[u8], scope: u32, name: &[u8]) -> Lookup
-    ensures { λ r. ⌜ r ≡ lookupOf (now (rows .entry)) (tagIn (now (rows .entry)) (now («tag_names» .entry)) scope (now (name .entry))) ⌝ }
+/// Whether a record is of that scope and name, as `model::lookup` tests a row.
+fn is_named(tag: Tag, tag_names: &[u8], scope: u32, name: &[u8]) -> bool
+    ensures { λ r. ⌜ r ≡ tagIs (now («tag_names» .entry)) scope (now (name .entry)) (rowOf tag) ⌝ }
 {
-    let Found::At(i) = model::lookup::find_tag(rows, tag_names, scope, name) else {
-        return nothing();
-    };
-    lookup_at(rows, i)
+    if tag.scope != scope {
+        return false;
+    }
+    path::same_name(
+        model::lookup::part_of(tag_names, tag.name_start, tag.name_length),
+        name,
+    )
 }
 
-/// The first tag of that scope and instance ID.
-pub fn tag_with_id(rows: &[[u32; 12]], scope: u32, id: u32) -> Lookup
-    ensures { λ r. ⌜ r ≡ lookupOf (now (rows .entry)) (idIn (now (rows .entry)) scope id) ⌝ }
+/// The same of a scope and an instance ID.
+fn has_id(tag: Tag, scope: u32, id: u32) -> bool
+    ensures { λ r. ⌜ r ≡ idIs scope id (rowOf tag) ⌝ }
 {
-    let Found::At(i) = model::lookup::find_tag_id(rows, scope, id) else {
-        return nothing();
-    };
-    lookup_at(rows, i)
+    if tag.scope != scope {
+        return false;
+    }
+    tag.id == id
+}
+
+/// The first tag of that scope and name: the record whose row the flat search finds among the rows that the records mean.
+pub fn tag_named(tags: &[Tag], tag_names: &[u8], scope: u32, name: &[u8]) -> Lookup
+    ensures { λ r. ⌜ r ≡ lookupOf (now (tags .entry)) (tagIn (rowsOf (now (tags .entry))) (now («tag_names» .entry)) scope (now (name .entry))) ⌝ }
+{
+    let n = tags.len();
+    let mut i = 0;
+    while i < n {
+        let tag = tags[i];
+        if is_named(tag, tag_names, scope, name) {
+            return found_at(i, tag);
+        }
+        i += 1;
+    }
+    nothing()
+}
+
+/// The first tag of that scope and instance ID, likewise.
+pub fn tag_with_id(tags: &[Tag], scope: u32, id: u32) -> Lookup
+    ensures { λ r. ⌜ r ≡ lookupOf (now (tags .entry)) (idIn (rowsOf (now (tags .entry))) scope id) ⌝ }
+{
+    let n = tags.len();
+    let mut i = 0;
+    while i < n {
+        let tag = tags[i];
+        if has_id(tag, scope, id) {
+            return found_at(i, tag);
+        }
+        i += 1;
+    }
+    nothing()
 }
