@@ -1,29 +1,26 @@
 -- Replies by their pieces, refusals under a limit, what a lookup found, and template reads.
 -- Assumes nothing.
-use mathlib.Core.Path.{_≡_, refl, sym, _∙_}
+use mathlib.Core.Path.{_≡_, sym, _∙_}
 use mathlib.Core.Bool.{Bool, true, false}
-use mathlib.Core.List.{List, [], _++_}
+use mathlib.Core.List.{List, []}
 use mathlib.Core.Option.{Option, none, some}
 use Prim.Native.Nat.{ℕ, _+_, _-_, _≤_, _<_, min}
 use native.Mathlib.Omega.{arith}
 use lib.Dec.{ltb, leb, eqb}
 use lib.ListN.{length, getD, length-take}
-use borrow.Author.Tests.{lt-ltb, le-ltb, le-leb, lt-leb, eq-eqb, leb-true, leb-false, ltb-true, eqb-true}
+use borrow.Author.Tests.{lt-ltb, le-ltb, lt-leb, eq-eqb, leb-true, leb-false, ltb-true, eqb-true}
 use Rattle.laws.specs.Pick.{pick, both}
-use Rattle.laws.specs.Put.{put, zeroed}
 use Rattle.laws.proofs.Chain.{clash, by-test}
-use Rattle.laws.proofs.Put.{put-then}
 use Rattle.laws.proofs.Tests.{scan-all, both-true, everyFrom-at}
 use Rattle.definition.specs.Bytes.{u16At, u32At, part}
-use Rattle.definition.specs.Reply.{Status, general, extended, reply, fail, room, success, partial, pathUnknown, tooLarge, tooShort, beyondEnd}
+use Rattle.definition.specs.Reply.{Status, reply, fail, room, success, partial, pathUnknown, tooLarge, tooShort, beyondEnd}
 use Rattle.definition.specs.Tables.{Tables, Row, templateId, structureSize, templateStart, templateLength}
 use Rattle.definition.specs.Lookup.{first, templateIn}
 use Rattle.definition.specs.Valid.{valid, encoded, t1, t2, t3, t4, structureFits}
 use Rattle.definition.specs.Template.{sendTemplate, templateReply}
-use Rattle.definition.specs.Answer.{capped, readTemplate}
+use Rattle.definition.specs.Answer.{readTemplate}
 use Rattle.cip.specs.Statuses.{hasWord}
-use Rattle.cip.specs.Writes.{Written, Laid}
-use Rattle.cip.proofs.Laws.{finished}
+use Rattle.cip.specs.Writes.{Laid}
 use Rattle.model.specs.Rows.{foundOf}
 use Rattle.model.specs.Tables.{tablesOf}
 use Rattle.model.specs.declared.lookup.Found.{Found}

@@ -154,8 +154,6 @@ module _ (structures : List Row) (g : Place) (bounded : Bounded structures g) (v
     pub position-within : g .start + p * sizeIn structures (g .ty) ≤ 65536
     position-within = omega (arith, bounded .within, mul-le-mul-right (sizeIn structures (g .ty)) position-counted)
 
-pub ruleset positions = (position-small, position-counted, position-within)
-
 -- ---- a position, two or three indexes by one
 
 module _ (ns : List ℕ) (v : Values) (small : positionOf ns v ≤ 65536) (second-length : length2 ns ≢ 0) where

@@ -64,8 +64,6 @@ module _ (structures members : List Row) (names : List ℕ) (g : Place) (w : Sta
   pub standing-start : g .start ≤ 65536
   standing-start = omega (arith, standing-bounded .within)
 
-pub ruleset standings = (standing-bounded, standing-start)
-
 -- ---- a walk looks at structures, members and names alone
 
 then-same : (r : Resolved) (a b : Target → Resolved) → ((g : Target) → a g ≡ b g) → andThen r a ≡ andThen r b
