@@ -31,7 +31,7 @@ use Rattle.model.specs.declared.Target.{Target}
 use Rattle.model.proofs.Laws.{indexed-lengths}
 use Rattle.resolve.specs.declared.places.Place.{Place}
 use Rattle.resolve.specs.declared.places.Moved.{Moved}
-use Rattle.resolve.specs.declared.places.Turn.the-variants as turn
+use Rattle.resolve.specs.declared.places.Way.the-variants as turn
 use Rattle.resolve.specs.declared.start.Start.{Start}
 use Rattle.resolve.specs.declared.start.Start.the-variants as start
 use Rattle.resolve.specs.declared.Resolved.{Resolved}

@@ -27,8 +27,8 @@ use Rattle.path.proofs.Segments.{segments-cut, segments-rest}
 use Rattle.model.specs.Tables.{tablesOf}
 use Rattle.cip.specs.declared.Status.{Status}
 use Rattle.resolve.specs.declared.places.Place.{Place}
-use Rattle.resolve.specs.declared.places.Turn.{Turn}
-use Rattle.resolve.specs.declared.places.Turn.the-variants.{Made, Turned}
+use Rattle.resolve.specs.declared.places.Way.{Way}
+use Rattle.resolve.specs.declared.places.Way.the-variants.{Made, Turned}
 use Rattle.resolve.specs.declared.elements.Run.{Run}
 use Rattle.resolve.specs.declared.moves.Stepped.{Stepped}
 use Rattle.resolve.specs.Paths.{left, leading, behind}
@@ -97,7 +97,7 @@ module _ (structures members : List Row) (names : List ℕ) (f : Flags) (path : 
   -- the segments from here on are one move and what follows it
   by-move : (m : Move) (next : ℕ) → moves (left path at) ≡ m ∷ moves (left path next) → isSome (segmentsFrom path next) ≡ true
       → length (left path next) < length (left path at) → Standing structures members names (placeOf g)
-      → (turn : Turn) (p : Target) → turnOf turn p ≡ moveTo here f m (placeOf g) → StepsTo structures members names f path at (placeOf g) p next turn
+      → (turn : Way) (p : Target) → turnOf turn p ≡ moveTo here f m (placeOf g) → StepsTo structures members names f path at (placeOf g) p next turn
   unfolding walk
   by-move m next ms d h w Made p e = record {
     same = rw (ms, ← e);
@@ -121,7 +121,7 @@ module _ (structures members : List Row) (names : List ℕ) (f : Flags) (path : 
 
   module _ (decodes : isSome (segmentsFrom path at) ≡ true) (s : Segment) (found-here : Decoded path at s) (r : Stepped) where
     module _ (away : movedOf (r .moved) ≡ turned pathError) where
-      by-turn : (turn : Turn) (p : Target) → turnOf turn p ≡ turned pathError → (u : Defined) (next : ℕ) → elementOf u ≡ none → nameOf u ≡ none
+      by-turn : (turn : Way) (p : Target) → turnOf turn p ≡ turned pathError → (u : Defined) (next : ℕ) → elementOf u ≡ none → nameOf u ≡ none
           → segmentAt path at ≡ step u next → StepsTo structures members names f path at (placeOf g) p (r .next) turn
       unfolding walk moves
       by-turn Made p q u next n k e = clash (cc q)

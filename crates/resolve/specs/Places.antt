@@ -8,8 +8,8 @@ use Rattle.cip.specs.Statuses.{statusOf}
 use Rattle.model.specs.Tables.{tablesOf}
 use Rattle.resolve.specs.declared.places.Place.{Place}
 use Rattle.resolve.specs.declared.places.Moved.{Moved}
-use Rattle.resolve.specs.declared.places.Turn.{Turn}
-use Rattle.resolve.specs.declared.places.Turn.the-variants.{Made, Turned}
+use Rattle.resolve.specs.declared.places.Way.{Way}
+use Rattle.resolve.specs.declared.places.Way.the-variants.{Made, Turned}
 
 -- the three lengths that a place holds
 abbrev pub length1 : List ℕ → ℕ
@@ -37,7 +37,7 @@ placeOf g = record {
 }
 
 -- a place is found unless the move was turned away
-abbrev pub turnOf : Turn → Target → Resolved
+abbrev pub turnOf : Way → Target → Resolved
 turnOf Made g = found g
 turnOf (Turned s) g = turned (statusOf s)
 

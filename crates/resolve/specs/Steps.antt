@@ -12,8 +12,8 @@ use Rattle.definition.specs.Resolve.{Target, Resolved, turned, moves, walk}
 use Rattle.definition.proofs.Inside.{Stands}
 use Rattle.cip.specs.Statuses.{statusOf}
 use Rattle.model.specs.Tables.{tablesOf}
-use Rattle.resolve.specs.declared.places.Turn.{Turn}
-use Rattle.resolve.specs.declared.places.Turn.the-variants.{Made, Turned}
+use Rattle.resolve.specs.declared.places.Way.{Way}
+use Rattle.resolve.specs.declared.places.Way.the-variants.{Made, Turned}
 use Rattle.resolve.specs.declared.moves.Stepped.{Stepped}
 use Rattle.resolve.specs.Paths.{left}
 use Rattle.resolve.specs.Places.{placeOf, onWalk}
@@ -39,7 +39,7 @@ pub record Onward (structures members : List Row) (names : List ℕ) (f : Flags)
   pub shorter : length (left path next) < length (left path at)
   pub standing : Standing structures members names p
 
-abbrev pub StepsTo : (structures members : List Row) (names : List ℕ) → Flags → (path : List ℕ) (at : ℕ) (g p : Target) (next : ℕ) → Turn → Type 0
+abbrev pub StepsTo : (structures members : List Row) (names : List ℕ) → Flags → (path : List ℕ) (at : ℕ) (g p : Target) (next : ℕ) → Way → Type 0
 StepsTo structures members names f path at g p next Made = Onward structures members names f path at g p next
 StepsTo structures members names f path at g p next (Turned s) = turned (statusOf s) ≡ walked structures members names f path at g
 

@@ -10,7 +10,7 @@ use model::columns::TAG_OFFSET;
 use model::columns::TAG_TYPE;
 use places::Moved;
 use places::Place;
-use places::Turn;
+use places::Way;
 
 pub mod elements;
 pub mod members;
@@ -73,11 +73,11 @@ fn answer(structures: &[[u32; 10]], moved: Moved) -> Resolved
 {
     let turn = moved.turn;
     match turn {
-        Turn::Made => {
+        Way::Made => {
             let place = moved.place;
             Resolved::Found(aim(structures, place))
         }
-        Turn::Turned(s) => Resolved::Turned(s),
+        Way::Turned(s) => Resolved::Turned(s),
     }
 }
 

@@ -2,7 +2,7 @@
 use crate::places;
 use crate::places::Moved;
 use crate::places::Place;
-use crate::places::Turn;
+use crate::places::Way;
 use cip::Status;
 use model::Flags;
 use path::Segment;
@@ -96,11 +96,11 @@ pub fn follow(
         let moved = stepped.moved;
         let turn = moved.turn;
         match turn {
-            Turn::Made => {
+            Way::Made => {
                 g = moved.place;
                 at = stepped.next;
             }
-            Turn::Turned(_) => {
+            Way::Turned(_) => {
                 return moved;
             }
         }

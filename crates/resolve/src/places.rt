@@ -17,7 +17,7 @@ pub struct Place {
 }
 
 /// Whether a move is made, or the status that turns it away.
-pub enum Turn {
+pub enum Way {
     Made,
     Turned(Status),
 }
@@ -25,7 +25,7 @@ pub enum Turn {
 /// What a move comes to: the place that it leads to, or the one that it was turned away from.
 /// (The place holds an array, which an enum cannot hold, so it stands beside the enum.)
 pub struct Moved {
-    pub turn: Turn,
+    pub turn: Way,
     pub place: Place,
 }
 
@@ -33,7 +33,7 @@ pub fn to(g: Place) -> Moved
     ensures { λ r. ⌜ movedOf r ≡ found (placeOf g) ⌝ }
 {
     Moved {
-        turn: Turn::Made,
+        turn: Way::Made,
         place: g,
     }
 }
@@ -42,7 +42,7 @@ pub fn turn_away(g: Place, s: Status) -> Moved
     ensures { λ r. ⌜ movedOf r ≡ turned (statusOf s) ⌝ }
 {
     Moved {
-        turn: Turn::Turned(s),
+        turn: Way::Turned(s),
         place: g,
     }
 }
