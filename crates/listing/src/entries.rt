@@ -3,7 +3,6 @@ use crate::values;
 use crate::values::Value;
 use cip::numbers;
 ghost use mathlib.Core.Path.{_≡_};
-ghost use mathlib.Core.List.{[], _∷_, _++_};
 ghost use Prim.Native.Nat.{_+_, _*_, _%_, _≤_, _<_};
 ghost use lib.ListN.{length, drop};
 ghost use Rattle.laws.specs.Put.{put};

@@ -1,6 +1,5 @@
 // The value of an attribute, and its bytes.
 ghost use mathlib.Core.Path.{_≡_};
-ghost use mathlib.Core.List.{[], _∷_, _++_};
 ghost use Prim.Native.Nat.{_+_, _≤_};
 ghost use lib.ListN.{length};
 ghost use Rattle.laws.specs.Put.{put};
@@ -8,7 +7,8 @@ ghost use Rattle.definition.specs.Symbols.{three32};
 ghost use Rattle.cip.specs.Writes.{Written};
 ghost use Rattle.listing.specs.Values.{valueBytes, reference};
 
-/// An attribute's value by its layout. (The three lengths are an array, which an enum cannot hold: they are put by themselves.)
+/// An attribute's value by its layout, but for the three lengths: `put_lengths` takes their array, since the borrow checker
+/// does not cover an enum that holds one.
 pub enum Value {
     Byte(u8),
     Short(u16),

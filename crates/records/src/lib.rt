@@ -17,7 +17,7 @@ use model::columns::TAG_TYPE;
 use model::lookup::Found;
 ghost use mathlib.Core.Path.{_≡_};
 ghost use mathlib.Core.List.{[]};
-ghost use mathlib.Core.Option.{none, some};
+ghost use mathlib.Core.Option.{none};
 ghost use Prim.Native.Nat.{_<_, min};
 ghost use lib.ListN.{length, set};
 ghost use Rattle.definition.specs.Lookup.{tagIn, idIn};

@@ -23,7 +23,7 @@ pub enum Way {
 }
 
 /// What a move comes to: the place that it leads to, or the one that it was turned away from.
-/// (The place holds an array, which an enum cannot hold, so it stands beside the enum.)
+/// (An enum that holds the place would hold its array of lengths, which the borrow checker does not cover.)
 pub struct Moved {
     pub turn: Way,
     pub place: Place,
