@@ -50,6 +50,7 @@ fn tell(
     match told {
         Told::Fine => text(b"fine\n"),
         Told::Broken(b) => wording::say(
+            STDOUT_FILENO,
             b,
             structures,
             members,

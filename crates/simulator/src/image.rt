@@ -9,6 +9,7 @@ ghost use Rattle.simulator.specs.Images.{HeadIn, FlagsIn, Few, rowsSize,
 use crate::say;
 use crate::session;
 use input::image_rows;
+use input::options::Options;
 use model::Flags;
 
 /// The flags, the rows of each table and the bytes of each store.
@@ -73,13 +74,13 @@ fn over(n: usize, what: &[u8], most: usize) -> bool
     if n <= most {
         return false;
     }
-    say::text(b"table image: ");
-    say::number(n as u64);
-    say::text(b" ");
-    say::text(what);
-    say::text(b", at most ");
-    say::number(most as u64);
-    say::text(b"\n");
+    say::fault(b"table image: ");
+    say::fault_number(n as u64);
+    say::fault(b" ");
+    say::fault(what);
+    say::fault(b", at most ");
+    say::fault_number(most as u64);
+    say::fault(b"\n");
     true
 }
 
@@ -155,6 +156,7 @@ fn open_with(
     programs: &[[u32; 2]],
     tags: &[[u32; 12]],
     others: &[[u32; 5]],
+    o: Options,
 )
     requires { ⌜ (Few h) × (length (now stores) ≡ storesSize h) ⌝ }
 {
@@ -175,11 +177,12 @@ fn open_with(
         &stores[b..c],
         flags_of(h.flags),
         &mut memory[..size],
+        o,
     );
 }
 
 /// The tables of a whole image.
-fn load(h: Head, image: &[u8])
+fn load(h: Head, image: &[u8], options: Options)
     requires { ⌜ (Few h) × (length (now image) ≡ imageSize h) ⌝ }
 {
     let n = h.structures;
@@ -205,17 +208,18 @@ fn load(h: Head, image: &[u8])
         &programs[..p],
         &tags[..t],
         &others[..o],
+        options,
     );
 }
 
-/// Serves the tables of an image, or says what is wrong with it.
-pub fn serve(image: &[u8]) {
+/// Serves the tables of an image as the options ask, or says what is wrong with it.
+pub fn serve(image: &[u8], o: Options) {
     if !has_magic(image) {
-        say::text(b"table image: it does not begin with CIPLINK1\n");
+        say::fault(b"table image: it does not begin with CIPLINK1\n");
         return;
     }
     if image.len() < 48 {
-        say::text(b"table image: it is shorter than its head of 48 bytes\n");
+        say::fault(b"table image: it is shorter than its head of 48 bytes\n");
         return;
     }
     let h = read_head(image);
@@ -224,12 +228,12 @@ pub fn serve(image: &[u8]) {
     }
     let n = size(h);
     if image.len() < n {
-        say::text(b"table image: it is shorter than its counts ask\n");
+        say::fault(b"table image: it is shorter than its counts ask\n");
         return;
     }
     if image.len() > n {
-        say::text(b"table image: it has bytes behind its tag memory\n");
+        say::fault(b"table image: it has bytes behind its tag memory\n");
         return;
     }
-    load(h, image);
+    load(h, image, o);
 }

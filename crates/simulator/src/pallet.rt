@@ -1,5 +1,6 @@
 // The pallet bench of document 01: controller scope, access 0, multi-service and instance IDs on.
 use crate::session;
+use input::options::Options;
 use model::Flags;
 
 /// `CellType`, 4 bytes, with one member and a template of 8 bytes.
@@ -25,7 +26,7 @@ const TEMPLATES: [u8; 8] = [1, 2, 3, 4, 5, 6, 7, 8];
 const MEMORY: [u8; 48] =
     *b"\x2A\0\0\0\x01\0\0\0\x02\0\0\0\x03\0\0\0\x04\0\0\0\x05\0\0\0\x06\0\0\0\x07\0\0\0\x08\0\0\0\x09\0\0\0\x0A\0\0\0\x04\0\0\0";
 
-pub fn serve() {
+pub fn serve(o: Options) {
     let structures = STRUCTURES;
     let members = MEMBERS;
     let programs = [[0u32; 2]; 0];
@@ -52,5 +53,6 @@ pub fn serve() {
         &templates,
         flags,
         &mut memory,
+        o,
     );
 }

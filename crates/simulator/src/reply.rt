@@ -91,7 +91,16 @@ fn status(s: &[u8]) {
     extended(cip::u16_at(s, 4));
 }
 
-pub fn show(s: &[u8]) {
+/// The number of the line that is answered, where it is asked for.
+fn number(numbers: bool, line: u64) {
+    if numbers {
+        say::number(line);
+        say::text(b": ");
+    }
+}
+
+pub fn show(s: &[u8], numbers: bool, line: u64) {
+    number(numbers, line);
     bytes(s);
     say::text(b" # ");
     status(s);

@@ -12,6 +12,9 @@ use input::hex;
 use input::hex::Fault;
 use input::hex::Line;
 use input::lines::Place;
+use input::options::Options;
+use libc::STDERR_FILENO;
+use libc::STDOUT_FILENO;
 use model::Flags;
 use tables::rules::Told;
 
@@ -30,6 +33,8 @@ fn respond(
     request: &[u8],
     limit: usize,
     buf: &mut [u8],
+    numbers: bool,
+    number: u64,
 )
     requires { let t = tablesOf (now structures) (now members) (now programs) (now tags) (now others) (now names) (now «tag_names») (now templates) in
         ⌜ (length (now request) ≤ 65535) × (limit ≤ 65535) × (65535 ≤ length (now buf)) × (valid t (length (now memory)) ≡ true) ⌝ }
@@ -49,7 +54,7 @@ fn respond(
         limit,
         buf,
     );
-    reply::show(&buf[..n]);
+    reply::show(&buf[..n], numbers, number);
 }
 
 /// Says what keeps a line from being a request.
@@ -74,6 +79,7 @@ fn serve_line(
     tag_names: &[u8],
     templates: &[u8],
     flags: Flags,
+    numbers: bool,
     memory: &mut [u8],
     line: &[u8],
     number: u64,
@@ -104,6 +110,8 @@ fn serve_line(
             &request[..n],
             limit,
             buf,
+            numbers,
+            number,
         ),
     }
 }
@@ -119,6 +127,7 @@ fn serve_lines(
     tag_names: &[u8],
     templates: &[u8],
     flags: Flags,
+    numbers: bool,
     memory: &mut [u8],
     input: &[u8],
     request: &mut [u8],
@@ -144,6 +153,7 @@ fn serve_lines(
             tag_names,
             templates,
             flags,
+            numbers,
             memory,
             &input[start..end],
             number,
@@ -175,6 +185,7 @@ fn turn(
     tag_names: &[u8],
     templates: &[u8],
     flags: Flags,
+    numbers: bool,
     memory: &mut [u8],
     input: &mut [u8],
     request: &mut [u8],
@@ -204,6 +215,7 @@ fn turn(
         tag_names,
         templates,
         flags,
+        numbers,
         memory,
         &input[..end],
         request,
@@ -224,6 +236,7 @@ fn serve(
     tag_names: &[u8],
     templates: &[u8],
     flags: Flags,
+    numbers: bool,
     memory: &mut [u8],
 )
     requires { let t = tablesOf (now structures) (now members) (now programs) (now tags) (now others) (now names) (now «tag_names») (now templates) in
@@ -245,6 +258,7 @@ fn serve(
             tag_names,
             templates,
             flags,
+            numbers,
             memory,
             &mut input,
             &mut request,
@@ -283,8 +297,9 @@ fn judged(
         memory,
     );
     if let Told::Broken(b) = told {
-        say::text(b"the tables are not valid: ");
+        say::fault(b"the tables are not valid: ");
         wording::say(
+            STDERR_FILENO,
             b,
             structures,
             members,
@@ -300,7 +315,7 @@ fn judged(
 }
 
 /// Judges the tables for this tag memory, then serves them.
-pub fn open(
+fn start(
     structures: &[[u32; 10]],
     members: &[[u32; 9]],
     programs: &[[u32; 2]],
@@ -310,6 +325,7 @@ pub fn open(
     tag_names: &[u8],
     templates: &[u8],
     flags: Flags,
+    numbers: bool,
     memory: &mut [u8],
 ) {
     if !judged(
@@ -335,6 +351,86 @@ pub fn open(
         tag_names,
         templates,
         flags,
+        numbers,
+        memory,
+    );
+}
+
+/// Lists the tables, and says what they break.
+fn list(
+    structures: &[[u32; 10]],
+    members: &[[u32; 9]],
+    programs: &[[u32; 2]],
+    tags: &[[u32; 12]],
+    others: &[[u32; 5]],
+    names: &[u8],
+    tag_names: &[u8],
+    templates: &[u8],
+    memory: &[u8],
+) {
+    shown::show(
+        STDOUT_FILENO,
+        structures,
+        members,
+        programs,
+        tags,
+        others,
+        names,
+        tag_names,
+        memory,
+    );
+    judged(
+        structures,
+        members,
+        programs,
+        tags,
+        others,
+        names,
+        tag_names,
+        templates,
+        memory,
+    );
+}
+
+/// Does with the tables what the options ask.
+pub fn open(
+    structures: &[[u32; 10]],
+    members: &[[u32; 9]],
+    programs: &[[u32; 2]],
+    tags: &[[u32; 12]],
+    others: &[[u32; 5]],
+    names: &[u8],
+    tag_names: &[u8],
+    templates: &[u8],
+    flags: Flags,
+    memory: &mut [u8],
+    o: Options,
+) {
+    if o.tables {
+        list(
+            structures,
+            members,
+            programs,
+            tags,
+            others,
+            names,
+            tag_names,
+            templates,
+            memory,
+        );
+        return;
+    }
+    start(
+        structures,
+        members,
+        programs,
+        tags,
+        others,
+        names,
+        tag_names,
+        templates,
+        flags,
+        o.numbers,
         memory,
     );
 }

@@ -1,7 +1,7 @@
-// Says in one line of standard output where a table set breaks a rule: TABLE, row N "NAME": WORDS.
+// Says in one line where a table set breaks a rule: TABLE, row N "NAME": WORDS.
 // What is written is tested and not proved. No function asks anything of its caller: a row that is not there has no name.
-mod name;
-mod out;
+pub mod name;
+pub mod out;
 mod words;
 
 use tables::rules::Breach;
@@ -23,16 +23,16 @@ pub const TAG_MEMORY: u32 = 6;
 
 pub const TEMPLATE_STORE: u32 = 7;
 
-fn show_table(table: u32) {
+fn show_table(fd: i32, table: u32) {
     match table {
-        STRUCTURES => out::text(b"structures, "),
-        MEMBERS => out::text(b"members, "),
-        PROGRAMS => out::text(b"programs, "),
-        TAGS => out::text(b"tags, "),
-        OTHERS => out::text(b"other symbols, "),
-        TAG_MEMORY => out::text(b"tag memory, "),
-        TEMPLATE_STORE => out::text(b"template store, "),
-        _ => out::text(b"no table, "),
+        STRUCTURES => out::text(fd, b"structures, "),
+        MEMBERS => out::text(fd, b"members, "),
+        PROGRAMS => out::text(fd, b"programs, "),
+        TAGS => out::text(fd, b"tags, "),
+        OTHERS => out::text(fd, b"other symbols, "),
+        TAG_MEMORY => out::text(fd, b"tag memory, "),
+        TEMPLATE_STORE => out::text(fd, b"template store, "),
+        _ => out::text(fd, b"no table, "),
     }
 }
 
@@ -45,6 +45,7 @@ fn has_bytes(table: u32) -> bool {
 
 /// A row's number, and its name if it has one. The names of tags have a store of their own.
 fn show_row(
+    fd: i32,
     table: u32,
     row: usize,
     structures: &[[u32; 10]],
@@ -55,20 +56,21 @@ fn show_row(
     names: &[u8],
     tag_names: &[u8],
 ) {
-    out::text(b"row ");
-    out::number(row);
+    out::text(fd, b"row ");
+    out::number(fd, row);
     match table {
-        STRUCTURES => name::show(names, name::of_structure(structures, row)),
-        MEMBERS => name::show(names, name::of_member(members, row)),
-        PROGRAMS => name::show(names, name::of_program(programs, row)),
-        TAGS => name::show(tag_names, name::of_tag(tags, row)),
-        OTHERS => name::show(names, name::of_other(others, row)),
+        STRUCTURES => name::show(fd, names, name::of_structure(structures, row)),
+        MEMBERS => name::show(fd, names, name::of_member(members, row)),
+        PROGRAMS => name::show(fd, names, name::of_program(programs, row)),
+        TAGS => name::show(fd, tag_names, name::of_tag(tags, row)),
+        OTHERS => name::show(fd, names, name::of_other(others, row)),
         _ => {}
     }
 }
 
 /// Where the rule is broken.
 fn show_place(
+    fd: i32,
     b: Breach,
     structures: &[[u32; 10]],
     members: &[[u32; 9]],
@@ -78,13 +80,14 @@ fn show_place(
     names: &[u8],
     tag_names: &[u8],
 ) {
-    show_table(b.table);
+    show_table(fd, b.table);
     if has_bytes(b.table) {
-        out::text(b"byte ");
-        out::number(b.row);
+        out::text(fd, b"byte ");
+        out::number(fd, b.row);
         return;
     }
     show_row(
+        fd,
         b.table,
         b.row,
         structures,
@@ -99,6 +102,7 @@ fn show_place(
 
 /// The row that it clashes with, if there is one; its table is named only where it is another one.
 fn show_clash(
+    fd: i32,
     b: Breach,
     structures: &[[u32; 10]],
     members: &[[u32; 9]],
@@ -111,11 +115,12 @@ fn show_clash(
     if b.other_table == NO_TABLE {
         return;
     }
-    out::text(b" ");
+    out::text(fd, b" ");
     if b.other_table != b.table {
-        show_table(b.other_table);
+        show_table(fd, b.other_table);
     }
     show_row(
+        fd,
         b.other_table,
         b.other,
         structures,
@@ -126,11 +131,12 @@ fn show_clash(
         names,
         tag_names,
     );
-    words::behind(b.rule, b.table);
+    words::behind(fd, b.rule, b.table);
 }
 
-/// One line on a breach of these tables.
+/// One line on a breach of these tables, to a descriptor.
 pub fn say(
+    fd: i32,
     b: Breach,
     structures: &[[u32; 10]],
     members: &[[u32; 9]],
@@ -141,6 +147,7 @@ pub fn say(
     tag_names: &[u8],
 ) {
     show_place(
+        fd,
         b,
         structures,
         members,
@@ -150,9 +157,10 @@ pub fn say(
         names,
         tag_names,
     );
-    out::text(b": ");
-    words::of_rule(b.rule, b.table, b.row);
+    out::text(fd, b": ");
+    words::of_rule(fd, b.rule, b.table, b.row);
     show_clash(
+        fd,
         b,
         structures,
         members,
@@ -162,5 +170,5 @@ pub fn say(
         names,
         tag_names,
     );
-    out::text(b"\n");
+    out::text(fd, b"\n");
 }

@@ -76,19 +76,23 @@ pub fn of_other(others: &[[u32; 5]], row: usize) -> StoredName {
     }
 }
 
-fn quoted(name: &[u8]) {
-    out::text(b" \"");
+/// As much of a name as is shown.
+fn cut(fd: i32, name: &[u8]) {
     if name.len() > SHOWN {
-        out::signs(&name[..SHOWN]);
-        out::text(b"..\"");
+        out::signs(fd, &name[..SHOWN]);
+        out::text(fd, b"..");
         return;
     }
-    out::signs(name);
-    out::text(b"\"");
+    out::signs(fd, name);
+}
+
+/// A name as it is. One that does not stand in its store is shown as far as it does.
+pub fn plain(fd: i32, store: &[u8], p: StoredName) {
+    cut(fd, part_of(store, p.start, p.length));
 }
 
 /// A name in quotes. An empty one is left out, and so is one that does not stand in its store, of which only a piece is there.
-pub fn show(store: &[u8], p: StoredName) {
+pub fn show(fd: i32, store: &[u8], p: StoredName) {
     let name = part_of(store, p.start, p.length);
     if name.len() == 0 {
         return;
@@ -96,5 +100,7 @@ pub fn show(store: &[u8], p: StoredName) {
     if name.len() < wide(p.length) {
         return;
     }
-    quoted(name);
+    out::text(fd, b" \"");
+    cut(fd, name);
+    out::text(fd, b"\"");
 }

@@ -1,12 +1,10 @@
-// What is written to standard output.
-use libc::STDOUT_FILENO;
-
-pub fn text(s: &[u8]) {
-    io::write_all(STDOUT_FILENO, s);
+// What is written, to standard output or standard error by its descriptor.
+pub fn text(fd: i32, s: &[u8]) {
+    io::write_all(fd, s);
 }
 
-pub fn number(n: usize) {
-    io::print_decimal(STDOUT_FILENO, n as u64);
+pub fn number(fd: i32, n: usize) {
+    io::print_decimal(fd, n as u64);
 }
 
 fn digit(d: u8) -> u8 {
@@ -18,23 +16,23 @@ fn digit(d: u8) -> u8 {
 }
 
 /// A byte of a name as it is, or as `\xHH` where it is no sign that a line of text can show.
-fn sign(b: u8) {
+fn sign(fd: i32, b: u8) {
     match b {
         0x20..=0x7E => {
             let shown = [b];
-            text(&shown);
+            text(fd, &shown);
         }
         _ => {
             let shown = [b'\\', b'x', digit(b / 16), digit(b % 16)];
-            text(&shown);
+            text(fd, &shown);
         }
     }
 }
 
-pub fn signs(s: &[u8]) {
+pub fn signs(fd: i32, s: &[u8]) {
     let mut i = 0;
     while i < s.len() {
-        sign(s[i]);
+        sign(fd, s[i]);
         i += 1;
     }
 }

@@ -9,13 +9,13 @@ use Rattle.simulator.proofs.session.serve_lines.Statement.{statement}
 use Rattle.simulator.proofs.session.serve_lines.Tie as tie
 
 abbrev Inv-loop : tie.InvT-loop
-Inv-loop structures members programs tags others names tag-names templates flags memory₀ input request₀ buf₀ start₀ number₀ skipping₀ end₀
+Inv-loop structures members programs tags others names tag-names templates flags numbers memory₀ input request₀ buf₀ start₀ number₀ skipping₀ end₀
     memory request buf start number skipping end =
     (start ≤ end) × (end ≤ length input) × (length request ≡ length request₀) × (length buf ≡ length buf₀) ×
     (length memory ≡ length memory₀)
 
 abbrev μ-loop : tie.MeasureT-loop
-μ-loop structures members programs tags others names tag-names templates flags memory₀ input request₀ buf₀ start₀ number₀ skipping₀ end₀
+μ-loop structures members programs tags others names tag-names templates flags numbers memory₀ input request₀ buf₀ start₀ number₀ skipping₀ end₀
     memory request buf start number skipping end =
     length input - start
 

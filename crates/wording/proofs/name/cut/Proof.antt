@@ -2,23 +2,19 @@
 use mathlib.Core.Path.{sym}
 use lib.Seq.{length-take-le}
 use borrow.Author.Needs.{needs}
-use Rattle.wording.proofs.name.quoted.Statement.{statement}
-use Rattle.wording.proofs.name.quoted.Tie as tie
+use Rattle.wording.proofs.name.cut.Statement.{statement}
+use Rattle.wording.proofs.name.cut.Tie as tie
 
 slice-aggregate-signs : tie.Need-slice-aggregate-signs
 slice-aggregate-signs c =
-    let args = c .before .before .before .before .before .args in
+    let args = c .before .before .before .args in
     sym (length-take-le 40 (args .name .now) (search needs))
 
-pub quoted-spec : {M : Type 1} → statement M
-quoted-spec =
+pub cut-spec : {M : Type 1} → statement M
+cut-spec =
     tie.close
     (tie.spec
-    (λ c. search needs)
-    (λ c κs. search needs)
     slice-aggregate-signs
-    (λ c κs. search needs)
-    (λ c. search needs)
     (λ c κs. search needs)
     (λ c. search needs)
     (λ c κs. search needs)

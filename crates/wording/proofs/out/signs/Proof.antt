@@ -6,10 +6,10 @@ use Rattle.wording.proofs.out.signs.Statement.{statement}
 use Rattle.wording.proofs.out.signs.Tie as tie
 
 abbrev Inv-loop : tie.InvT-loop
-Inv-loop s i₀ i = i ≤ length s
+Inv-loop fd s i₀ i = i ≤ length s
 
 abbrev μ-loop : tie.MeasureT-loop
-μ-loop s i₀ i = length s - i
+μ-loop fd s i₀ i = length s - i
 
 pub signs-spec : {M : Type 1} → statement M
 signs-spec =
