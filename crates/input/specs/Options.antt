@@ -5,8 +5,8 @@ use Prim.Native.Nat.{ℕ}
 use lib.Dec.{eqb}
 use Rattle.laws.specs.Pick.{pick}
 use Rattle.laws.specs.Zip.{agree}
-use Rattle.input.specs.declared.options.Word.{Word}
-use Rattle.input.specs.declared.options.Word.the-variants.{Help, Numbers, Tables, File, Unknown, TooLong}
+use Rattle.input.specs.declared.options.Argument.{Argument}
+use Rattle.input.specs.declared.options.Argument.the-variants.{Help, Numbers, Tables, File, Unknown, TooLong}
 use Rattle.input.specs.declared.options.Options.{Options}
 
 abbrev pub isDashed : List ℕ → Bool
@@ -14,14 +14,14 @@ isDashed [] = false
 isDashed (c ∷ text) = eqb c 0x2D
 
 -- a word that begins with a minus sign
-unfoldable pub optionOf : List ℕ → Word
+unfoldable pub optionOf : List ℕ → Argument
 optionOf text =
     pick (agree eqb text (0x2D ∷ 0x2D ∷ 0x68 ∷ 0x65 ∷ 0x6C ∷ 0x70 ∷ [])) Help
     (pick (agree eqb text (0x2D ∷ 0x2D ∷ 0x6E ∷ 0x75 ∷ 0x6D ∷ 0x62 ∷ 0x65 ∷ 0x72 ∷ 0x73 ∷ [])) Numbers
     (pick (agree eqb text (0x2D ∷ 0x2D ∷ 0x74 ∷ 0x61 ∷ 0x62 ∷ 0x6C ∷ 0x65 ∷ 0x73 ∷ [])) Tables Unknown))
 
 -- a word; one that is too long is not all there
-unfoldable pub wordOf : List ℕ → (too-long : Bool) → Word
+unfoldable pub wordOf : List ℕ → (too-long : Bool) → Argument
 wordOf text too-long = pick too-long TooLong (pick (isDashed text) (optionOf text) File)
 
 -- ---- what all words ask for
@@ -39,7 +39,7 @@ fileIn o i =
     pick (eqb (o .file) 0)
     (record { help = o .help; numbers = o .numbers; tables = o .tables; file = i; wrong = o .wrong }) (refusedIn o i)
 
-abbrev pub takenBy : Options → (i : ℕ) → Word → Options
+abbrev pub takenBy : Options → (i : ℕ) → Argument → Options
 takenBy o i Help = record { help = true; numbers = o .numbers; tables = o .tables; file = o .file; wrong = o .wrong }
 takenBy o i Numbers = record { help = o .help; numbers = true; tables = o .tables; file = o .file; wrong = o .wrong }
 takenBy o i Tables = record { help = o .help; numbers = o .numbers; tables = true; file = o .file; wrong = o .wrong }

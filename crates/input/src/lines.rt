@@ -9,17 +9,17 @@ ghost use Rattle.input.specs.Text.{upTo, endAfter, leftAfter};
 
 /// How far the input is read: where the unfinished line begins or how many of its bytes are at the buffer's start, its
 /// number, whether it is the rest of a line that was too long, and whether more may come.
-pub struct Place {
+pub struct Cursor {
     pub at: usize,
     pub line: u64,
     pub skipping: bool,
     pub open: bool,
 }
 
-pub fn first() -> Place
+pub fn first() -> Cursor
     ensures { λ r. ⌜ (r .at ≡ 0) × (r .line ≡ 1) × (r .skipping ≡ false) × (r .open ≡ true) ⌝ }
 {
-    Place {
+    Cursor {
         at: 0,
         line: 1,
         skipping: false,
@@ -27,10 +27,10 @@ pub fn first() -> Place
     }
 }
 
-pub fn closed() -> Place
+pub fn closed() -> Cursor
     ensures { λ r. ⌜ (r .at ≡ 0) × (r .line ≡ 0) × (r .skipping ≡ false) × (r .open ≡ false) ⌝ }
 {
-    Place {
+    Cursor {
         at: 0,
         line: 0,
         skipping: false,
@@ -82,14 +82,14 @@ fn to_front(input: &mut [u8], from: usize, end: usize)
 }
 
 /// The unfinished line to the buffer's start.
-pub fn shift(input: &mut [u8], end: usize, place: Place) -> Place
+pub fn shift(input: &mut [u8], end: usize, place: Cursor) -> Cursor
     requires { ⌜ (place .at ≤ end) × (end ≤ length (now input)) ⌝ }
     ensures { λ r. ⌜ (r .at ≡ end - place .at) × (r .line ≡ place .line) × (r .skipping ≡ place .skipping) × (r .open ≡ true)
         × (now (input .exit) ≡ put (now (input .entry)) 0 (part (now (input .entry)) (place .at) (end - place .at))) ⌝ }
 {
     let from = place.at;
     to_front(input, from, end);
-    Place {
+    Cursor {
         at: end - from,
         line: place.line,
         skipping: place.skipping,

@@ -8,7 +8,7 @@ ghost use Rattle.laws.specs.Zip.{agree};
 ghost use Rattle.input.specs.Options.{isDashed, optionOf, wordOf, firstOf, refusedIn, fileIn, takenBy};
 
 /// What one word is.
-pub enum Word {
+pub enum Argument {
     Help,
     Numbers,
     Tables,
@@ -83,32 +83,32 @@ fn is_dashed(text: &[u8]) -> bool
     text[0] == b'-'
 }
 
-fn option_of(text: &[u8]) -> Word
+fn option_of(text: &[u8]) -> Argument
     ensures { λ r. ⌜ r ≡ optionOf (now (text .entry)) ⌝ }
 {
     if same(text, b"--help") {
-        return Word::Help;
+        return Argument::Help;
     }
     if same(text, b"--numbers") {
-        return Word::Numbers;
+        return Argument::Numbers;
     }
     if same(text, b"--tables") {
-        return Word::Tables;
+        return Argument::Tables;
     }
-    Word::Unknown
+    Argument::Unknown
 }
 
 /// What a word is; one that is too long is not all there.
-pub fn kind_of(text: &[u8], too_long: bool) -> Word
+pub fn kind_of(text: &[u8], too_long: bool) -> Argument
     ensures { λ r. ⌜ r ≡ wordOf (now (text .entry)) «too_long» ⌝ }
 {
     if too_long {
-        return Word::TooLong;
+        return Argument::TooLong;
     }
     if is_dashed(text) {
         return option_of(text);
     }
-    Word::File
+    Argument::File
 }
 
 /// The earlier of two words, where the first may be missing.
@@ -151,33 +151,33 @@ fn file(o: Options, i: usize) -> Options
 }
 
 /// What is asked for with word i too.
-pub fn taken(o: Options, w: Word, i: usize) -> Options
+pub fn taken(o: Options, w: Argument, i: usize) -> Options
     ensures { λ r. ⌜ r ≡ takenBy o i w ⌝ }
 {
     match w {
-        Word::Help => Options {
+        Argument::Help => Options {
             help: true,
             numbers: o.numbers,
             tables: o.tables,
             file: o.file,
             wrong: o.wrong,
         },
-        Word::Numbers => Options {
+        Argument::Numbers => Options {
             help: o.help,
             numbers: true,
             tables: o.tables,
             file: o.file,
             wrong: o.wrong,
         },
-        Word::Tables => Options {
+        Argument::Tables => Options {
             help: o.help,
             numbers: o.numbers,
             tables: true,
             file: o.file,
             wrong: o.wrong,
         },
-        Word::File => file(o, i),
-        Word::Unknown => refused(o, i),
-        Word::TooLong => refused(o, i),
+        Argument::File => file(o, i),
+        Argument::Unknown => refused(o, i),
+        Argument::TooLong => refused(o, i),
     }
 }

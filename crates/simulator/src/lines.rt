@@ -5,17 +5,17 @@ ghost use Prim.Native.Nat.{_<_};
 ghost use lib.ListN.{length};
 ghost use Rattle.input.specs.Text.{More};
 use crate::say;
-use input::lines::Place;
+use input::lines::Cursor;
 use libc::STDIN_FILENO;
 
 /// A line that fills the buffer is said to be too long once; what comes of it further on is dropped.
-pub fn overflow(place: Place) -> Place
+pub fn overflow(place: Cursor) -> Cursor
     ensures { λ r. ⌜ (r .at ≡ 0) × (r .line ≡ place .line) × (r .skipping ≡ true) × (r .open ≡ true) ⌝ }
 {
     if !place.skipping {
         say::about_line(place.line, b"longer than 262143 characters");
     }
-    Place {
+    Cursor {
         at: 0,
         line: place.line,
         skipping: true,

@@ -9,8 +9,8 @@ mod say;
 mod session;
 
 use input::options;
+use input::options::Argument;
 use input::options::Options;
-use input::options::Word;
 
 /// One byte more than the largest image, so that rest bytes show.
 const MOST: usize = 269873;
@@ -28,7 +28,7 @@ fn serve_file(name: &[u8], o: Options) {
 }
 
 /// What argument i is; the system says whether it is too long.
-fn word_at(i: usize) -> Word {
+fn word_at(i: usize) -> Argument {
     let mut text = io::buffer();
     let n = os::arg(i, &mut text);
     let too_long = os::errno() != 0;
@@ -47,12 +47,12 @@ fn blame(what: &[u8], i: usize) {
 /// Says why argument i is not taken.
 fn complain(i: usize) {
     match word_at(i) {
-        Word::TooLong => {
+        Argument::TooLong => {
             say::fault(b"argument ");
             say::fault_number(i as u64);
             say::fault(b" is longer than 4096 bytes\n");
         }
-        Word::Unknown => blame(b"unknown option `", i),
+        Argument::Unknown => blame(b"unknown option `", i),
         _ => blame(b"extra argument `", i),
     }
 }

@@ -11,7 +11,7 @@ use crate::say;
 use input::hex;
 use input::hex::Fault;
 use input::hex::Line;
-use input::lines::Place;
+use input::lines::Cursor;
 use input::options::Options;
 use libc::STDERR_FILENO;
 use libc::STDOUT_FILENO;
@@ -132,8 +132,8 @@ fn serve_lines(
     input: &[u8],
     request: &mut [u8],
     buf: &mut [u8],
-    place: Place,
-) -> Place
+    place: Cursor,
+) -> Cursor
     requires { let t = tablesOf (now structures) (now members) (now programs) (now tags) (now others) (now names) (now «tag_names») (now templates) in
         ⌜ (length (now request) ≤ 65535) × (65535 ≤ length (now buf)) × (length (now input) ≤ 262144) × (valid t (length (now memory)) ≡ true) ⌝ }
     ensures { λ r. ⌜ r .at ≤ length (now (input .entry)) ⌝ }
@@ -166,7 +166,7 @@ fn serve_lines(
         start = end + 1;
         end = input::lines::find(input, start, b'\n');
     }
-    Place {
+    Cursor {
         at: start,
         line: number,
         skipping: skipping,
@@ -190,8 +190,8 @@ fn turn(
     input: &mut [u8],
     request: &mut [u8],
     buf: &mut [u8],
-    place: Place,
-) -> Place
+    place: Cursor,
+) -> Cursor
     requires { let t = tablesOf (now structures) (now members) (now programs) (now tags) (now others) (now names) (now «tag_names») (now templates) in
         ⌜ (length (now request) ≤ 65535) × (65535 ≤ length (now buf)) × (length (now input) ≤ 262144) × (place .at ≤ length (now input))
         × (valid t (length (now memory)) ≡ true) ⌝ }
