@@ -20,13 +20,21 @@ MOST = (('structures', 64), ('members', 512), ('programs', 16), ('tags', 1024), 
         ('bytes of tag names', 40960), ('bytes of templates', 65536), ('bytes of tag memory', 65536))
 NO_BIT = 8
 
-# the controller's own types; a member is a name, a type, a length, an offset and a bit
+HIDDEN = (1, 0, 0)  # marks of a member: hidden, local, access
+
+
+def control(words, bits):
+    """The members of a type of three words: a hidden one, whose bits count down from its last, and two numbers."""
+    return ([('CTL', 'DINT', 0, 0, NO_BIT, HIDDEN)] + [(word, 'DINT', 0, 4 + 4 * i, NO_BIT) for i, word in enumerate(words)]
+            + [(bit, 'BOOL', 0, (31 - i) // 8, (31 - i) % 8) for i, bit in enumerate(bits)])
+
+
+# the controller's own types: template ID, handle, size and members; a member is a name, a type, a length, an offset, a bit and marks
 OWN = {
-    'STRING': (0xFCE, 88, [('LEN', 'DINT', 0, 0, NO_BIT), ('DATA', 'SINT', 82, 4, NO_BIT)]),
-    'TIMER': (0xF83, 12, [('EN', 'BOOL', 0, 3, 7), ('TT', 'BOOL', 0, 3, 6), ('DN', 'BOOL', 0, 3, 5), ('PRE', 'DINT', 0, 4, NO_BIT),
-                          ('ACC', 'DINT', 0, 8, NO_BIT)]),
-    'COUNTER': (0xF82, 12, [('CU', 'BOOL', 0, 3, 7), ('CD', 'BOOL', 0, 3, 6), ('DN', 'BOOL', 0, 3, 5), ('OV', 'BOOL', 0, 3, 4),
-                            ('UN', 'BOOL', 0, 3, 3), ('PRE', 'DINT', 0, 4, NO_BIT), ('ACC', 'DINT', 0, 8, NO_BIT)]),
+    'TIMER': (0xF83, 0x8F63, 12, control(('PRE', 'ACC'), ('EN', 'TT', 'DN'))),
+    'COUNTER': (0xF82, 0x000C, 12, control(('PRE', 'ACC'), ('CU', 'CD', 'DN', 'OV', 'UN'))),
+    'CONTROL': (0xF81, 0xB771, 12, control(('LEN', 'POS'), ('EN', 'EU', 'DN', 'EM', 'ER', 'UL', 'IN', 'FD'))),
+    'STRING': (0xFCE, 0x5EBB, 88, [('LEN', 'DINT', 0, 0, NO_BIT), ('DATA', 'SINT', 82, 4, NO_BIT)]),
 }
 
 
@@ -87,8 +95,8 @@ class Image:
             code, size = ATOMIC[name]
             return code, size, size, None
         if name not in self.types and name in OWN:
-            handle, size, members = OWN[name]
-            self.structure(place, name, members, size, 4, {'handle': handle, 'template_id': handle})
+            template_id, handle, size, members = OWN[name]
+            self.structure(place, name, members, size, 4, {'handle': handle, 'template_id': template_id})
         if name not in self.types:
             wrong(place, f'unknown type {json.dumps(name)}')
         return self.types[name]
@@ -310,7 +318,7 @@ class Image:
             self.other(place, 0, f'Task:{item.get("name")}', 0x1070, item)
         for place, item in listed('', cell, 'system_tags'):
             check(place, item, ('name', 'instance_id', 'symbol_type'))
-            self.other(place, 0, item.get('name'), 0x1069, item)
+            self.other(place, 0, item.get('name'), 0x10C4, item)
 
     def bytes(self):
         stores = [self.names, self.tag_names, self.templates, self.memory]

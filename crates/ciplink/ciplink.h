@@ -3,10 +3,11 @@
  * Link target/staticlib/libciplink.a, which `rt staticlib ciplink` writes (x86-64 Linux). The functions keep nothing between
  * two calls, allocate nothing and may run in several threads at once, each on tag memory and a reply buffer of its own.
  *
- * The stack that a call takes, in KiB, measured by oracle/stack with the largest tables and rounded up:
+ * The stack that a call takes, in KiB: the most that oracle/stack measured with the largest tables, and a sixth more, since what
+ * is measured is no bound for every input:
  *   ciplink_answer                                                          4
- *   ciplink_valid, ciplink_breach, ciplink_message, ciplink_read_whole     48
- *   ciplink_list_whole (a page that it measures stands on its stack)      112
+ *   ciplink_valid, ciplink_breach, ciplink_message, ciplink_read_whole     56
+ *   ciplink_list_whole (a page that it measures stands on its stack)      128
  *
  * A table passes as a pointer to its rows and their number, a store of bytes as a pointer and its length. No pointer may be
  * NULL, not even one to nothing. Tag memory and the reply buffer overlap nothing else that is passed, nor each other, and

@@ -9,14 +9,14 @@ use Rattle.simulator.proofs.session.serve.Statement.{statement}
 use Rattle.simulator.proofs.session.serve.Tie as tie
 
 abbrev Inv-loop : tie.InvT-loop
-Inv-loop structures members programs tags others names tag-names templates flags numbers memory₀ input₀ request₀ buf₀ place₀ turns₀ memory input request buf place
-    turns =
+Inv-loop structures members programs tags others names tag-names templates flags numbers memory₀ input₀ request₀ buf₀ place₀ turns₀ memory input
+    request buf place turns =
     (length memory ≡ length memory₀) × (length input ≡ 262144) × (length request ≡ 65535) × (length buf ≡ 65535) ×
     (place .at ≤ 262144)
 
 abbrev μ-loop : tie.MeasureT-loop
-μ-loop structures members programs tags others names tag-names templates flags numbers memory₀ input₀ request₀ buf₀ place₀ turns₀ memory input request buf place turns =
-    turns
+μ-loop structures members programs tags others names tag-names templates flags numbers memory₀ input₀ request₀ buf₀ place₀ turns₀ memory input
+    request buf place turns = turns
 
 loop-holds : tie.Need-loop-holds Inv-loop μ-loop
 loop-holds c = (refl, length-replicate {A = ℕ} 262144 0, length-replicate {A = ℕ} 65535 0, length-replicate {A = ℕ} 65535 0, omega (arith, c .first .ensures))
