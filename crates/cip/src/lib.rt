@@ -7,7 +7,7 @@ pub mod replies;
 ghost use mathlib.Core.Path.{_≡_};
 ghost use mathlib.Core.List.{[], _∷_};
 ghost use Prim.Native.Nat.{_+_, _*_, _<_, _≤_};
-ghost use lib.ListN.{length, getD};
+ghost use lib.ListN.{length};
 ghost use Rattle.laws.specs.Put.{put, zeroed, laid};
 ghost use Rattle.definition.specs.Bytes.{le16, le32, u16At, u32At};
 ghost use Rattle.definition.specs.Reply.{reply, room, codeOf};

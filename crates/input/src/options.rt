@@ -3,7 +3,6 @@ ghost use mathlib.Core.Path.{_≡_};
 ghost use mathlib.Core.Bool.{false};
 ghost use lib.Dec.{eqb};
 ghost use lib.ListN.{length};
-ghost use Rattle.laws.specs.Pick.{pick};
 ghost use Rattle.laws.specs.Zip.{agree};
 ghost use Rattle.input.specs.Options.{isDashed, optionOf, wordOf, firstOf, refusedIn, fileIn, takenBy};
 

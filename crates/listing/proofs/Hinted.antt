@@ -21,7 +21,8 @@ use Rattle.model.specs.Least.{nearerId, leastRow, leastIn, tagOr, nextIn}
 use Rattle.model.specs.declared.least.Least.{Least}
 use Rattle.model.specs.declared.least.Least.the-variants.{Of, Empty}
 use Rattle.model.specs.declared.least.Next.the-variants.{Tag}
-use Rattle.listing.specs.Entries.{IdsApart, SomeValid}
+use Rattle.model.specs.Tables.{SomeValid, forPage}
+use Rattle.listing.specs.Entries.{IdsApart}
 
 -- T3, of a row with this scope and ID and another row of the scope
 other-id : (scope bound : ℕ) (r q : Row) → tagScope r ≡ scope → tagId r ≡ bound → idsDiffer r q ≡ true → tagScope q ≡ scope → tagId q ≢ bound
@@ -88,7 +89,7 @@ module _ (scope bound : ℕ) where
       rw (found 0 tags h h (d .0) l (omega arith) s i, i) (sym (tag-first h (leastIn scope bound others) other))
 
 -- by T3 of a valid table set
-pub ids-apart : (structures tags others : List Row) (names tagNames : List ℕ) → SomeValid structures tags others names tagNames → IdsApart tags others
+pub ids-apart : (structures tags others : List Row) (names tagNames : List ℕ) → SomeValid (forPage structures tags others names tagNames) → IdsApart tags others
 unfolding valid t3
 ids-apart structures tags others names tagNames w = (
   among (pairs idsDiffer tags) _ (w .ok) (λ e. simp (e, both-none)),

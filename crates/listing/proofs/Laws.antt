@@ -22,7 +22,6 @@ use Rattle.definition.specs.Answer.{readTemplate}
 use Rattle.cip.specs.Statuses.{hasWord}
 use Rattle.cip.specs.Writes.{Laid}
 use Rattle.model.specs.Rows.{foundOf}
-use Rattle.model.specs.Tables.{tablesOf}
 use Rattle.model.specs.declared.lookup.Found.{Found}
 use Rattle.model.specs.declared.lookup.Found.the-variants.{At, Nothing}
 use Rattle.listing.specs.Templates.{templateSent, templateAsked, InStore}
@@ -110,17 +109,13 @@ in-store t memory v i h =
     leb-true _ _ (both-true (leb (templateStart row + templateLength row) (length (t .templates))) _
     (both-true (leb (structureSize row) 65535) _ (both-true (ltb 0 (structureSize row)) _ fits .1) .1) .0)
 
-module _ (structures members programs tags others : List Row) (names tagNames templates : List ℕ) (service id : ℕ) (body : List ℕ) (limit : ℕ)
-    (old new : List ℕ) (r : ℕ) where
-  abbrev tables : Tables
-  tables = tablesOf structures members programs tags others names tagNames templates
-
+module _ (t : Tables) (service id : ℕ) (body : List ℕ) (limit : ℕ) (old new : List ℕ) (r : ℕ) where
   abbrev ReadLaid : Option ℕ → Type 0
-  ReadLaid o = Laid limit (readTemplate tables service o body limit) old r new
+  ReadLaid o = Laid limit (readTemplate t service o body limit) old r new
 
   found-template : (i : ℕ) (o : Option ℕ) → At i ≡ foundOf o
-      → Laid limit (templateAsked templates (templateStart (getD structures i [])) (templateLength (getD structures i [])) service body limit) old r new
-      → ReadLaid o
+      → Laid limit (templateAsked (t .templates) (templateStart (getD (t .structures) i [])) (templateLength (getD (t .structures) i [])) service body limit)
+      old r new → ReadLaid o
   unfolding templateAsked templateSent templateReply sendTemplate
   found-template i none e l = clash (cc e)
   found-template i (some j) e l = let k : i ≡ j = cc e in rw k at l
@@ -129,11 +124,11 @@ module _ (structures members programs tags others : List Row) (names tagNames te
   no-template none e l = l
   no-template (some j) e l = clash (cc e)
 
-  pub read-found : (i : ℕ) (f : Found) → f ≡ At i → f ≡ foundOf (templateIn structures id)
-      → Laid limit (templateAsked templates (templateStart (getD structures i [])) (templateLength (getD structures i [])) service body limit) old r new
-      → ReadLaid (templateIn structures id)
-  read-found i f q e l = found-template i (templateIn structures id) (sym q ∙ e) l
+  pub read-found : (i : ℕ) (f : Found) → f ≡ At i → f ≡ foundOf (templateIn (t .structures) id)
+      → Laid limit (templateAsked (t .templates) (templateStart (getD (t .structures) i [])) (templateLength (getD (t .structures) i [])) service body limit)
+      old r new → ReadLaid (templateIn (t .structures) id)
+  read-found i f q e l = found-template i (templateIn (t .structures) id) (sym q ∙ e) l
 
-  pub read-unknown : (f : Found) → f ≡ Nothing → f ≡ foundOf (templateIn structures id) → Laid limit (fail service pathUnknown) old r new
-      → ReadLaid (templateIn structures id)
-  read-unknown f q e l = no-template (templateIn structures id) (sym q ∙ e) l
+  pub read-unknown : (f : Found) → f ≡ Nothing → f ≡ foundOf (templateIn (t .structures) id) → Laid limit (fail service pathUnknown) old r new
+      → ReadLaid (templateIn (t .structures) id)
+  read-unknown f q e l = no-template (templateIn (t .structures) id) (sym q ∙ e) l

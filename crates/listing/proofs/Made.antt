@@ -14,11 +14,10 @@ use Rattle.laws.specs.Put.{put}
 use Rattle.laws.specs.Tests.{every}
 use Rattle.laws.proofs.Chain.{by-test}
 use Rattle.laws.proofs.Put.{put-then}
-use Rattle.definition.specs.Tables.{Row, field, tagId, tagName, tagType, tagElements, tagAccess, isAlias, lengthsOf, nonzero}
+use Rattle.definition.specs.Tables.{Row, field, tagId, tagType, tagElements, tagAccess, isAlias, lengthsOf, nonzero}
 use Rattle.definition.specs.Types.{symbolType, sizeIn}
 use Rattle.definition.specs.Lookup.{marked}
-use Rattle.model.specs.Tables.{tablesOf}
-use Rattle.listing.specs.Entries.{made}
+use Rattle.listing.specs.Entries.{TagMade}
 use Rattle.listing.specs.declared.entries.Symbol.{Symbol}
 use Rattle.definition.specs.Bytes.{u16At, le32, numbers}
 use Rattle.definition.specs.Symbols.{Symbol as Defined, baseTag, tagSymbol, listedLengths, attributesOf}
@@ -43,14 +42,14 @@ module _ (r : Row) (long : 8 ≤ length r) where
   lengths-three = rw (drop-cons r 5 0 (omega arith), drop-cons r 6 0 (omega arith), drop-cons r 7 0 (omega arith))
 
 -- a tag's symbol, field by field
-pub tag-made : (structures members programs tags others : List Row) (names tagNames templates : List ℕ) (r : Row) (s : Symbol) (count : ℕ) (xs : List (List ℕ))
+pub tag-made : (structures : List Row) (r : Row) (s : Symbol) (count : ℕ) (xs : List (List ℕ))
     → s .id ≡ tagId r → count ≡ length (nonzero (field 5 r ∷ field 6 r ∷ field 7 r ∷ [])) → s .kind ≡ symbolType structures (tagType r) count
     → s .control ≡ pick (marked (isAlias r)) 0 baseTag → s .size ≡ sizeIn structures (tagType r) → xs ≡ shapesOf r
     → s .lengths ≡ getD xs 0 [] → s .access ≡ tagAccess r % 256
     → tagAccess r ≤ 3 → 0 < tagElements r
-    → made (tagName tagNames r) s ≡ tagSymbol (tablesOf structures members programs tags others names tagNames templates) r
+    → TagMade structures r s
 unfolding tagSymbol
-tag-made structures members programs tags others names tagNames templates r s count xs a n k b z x f w small some =
+tag-made structures r s count xs a n k b z x f w small some o =
     let long = long-row r some in
     let access : s .access ≡ tagAccess r = omega arith in
     let kind : s .kind ≡ symbolType structures (tagType r) (length (lengthsOf r)) = k

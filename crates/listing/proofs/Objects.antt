@@ -22,7 +22,6 @@ use Rattle.definition.specs.Attributes.{attributeEntries, listReply, structureA
 use Rattle.definition.specs.Answer.{capped}
 use Rattle.cip.specs.Writes.{Laid}
 use Rattle.model.specs.Rows.{foundOf, idIs}
-use Rattle.model.specs.Tables.{tablesOf}
 use Rattle.model.specs.declared.lookup.Found.{Found}
 use Rattle.model.specs.declared.lookup.Found.the-variants.{At, Nothing}
 use Rattle.listing.specs.Objects.{objectValue, structureObject, programBy, programObject, tagList}
@@ -115,10 +114,7 @@ module _ (limit service : ℕ) (body old new : List ℕ) (r : ℕ) where
     unfolding tagList
     tag-unknown f q e l = no-tag-by f (idIn tags 0 id) q e l
 
-  module _ (structures members programs tags others : List Row) (names tagNames templates : List ℕ) (id : ℕ) where
-    abbrev tables : Tables
-    tables = tablesOf structures members programs tags others names tagNames templates
-
+  module _ (tables : Tables) (id : ℕ) where
     -- `symbolAttributes`, with what the two lookups found
     abbrev SymbolAnswered : Option ℕ → Option ℕ → Type 0
     SymbolAnswered o t =
@@ -129,13 +125,13 @@ module _ (limit service : ℕ) (body old new : List ℕ) (r : ℕ) where
     reference-same (some k) a = refl
 
     other-by : (i : ℕ) (f : Found) (x : Described) (o t : Option ℕ) → f ≡ At i → f ≡ foundOf o
-        → x ≡ programObject (programBy programs names (otherName names (getD others i [])))
+        → x ≡ programObject (programBy (tables .programs) (tables .names) (otherName (tables .names) (getD (tables .others) i [])))
         → Listed x → SymbolAnswered o t
     unfolding programOf programBy
     other-by i f x none t q e p l = clash (cc (q, e))
     other-by i f x (some j) t q e p l =
         let h : i ≡ j = cc (q, e) in
-        let name = programBy programs names (otherName names (getD others j [])) in
+        let name = programBy (tables .programs) (tables .names) (otherName (tables .names) (getD (tables .others) j [])) in
         rw (list-same (programReference name) (objectValue (programObject name)) (reference-same name) service (counted body)) (rw (p, h) at l)
 
     tag-only : (f : Found) (o t : Option ℕ) → f ≡ Nothing → f ≡ foundOf o
@@ -144,15 +140,16 @@ module _ (limit service : ℕ) (body old new : List ℕ) (r : ℕ) where
         rw (list-same (programReference none) (objectValue Plain) (λ a. refl) service (counted body)) l
     tag-only f (some j) t q e l = clash (cc (q, e))
 
-    pub symbol-other : (i : ℕ) (f : Found) (x : Described) → f ≡ At i → f ≡ foundOf (idIn others 0 id)
-        → x ≡ programObject (programBy programs names (otherName names (getD others i []))) → Listed x → Answered (symbolAttributes tables service id body)
+    pub symbol-other : (i : ℕ) (f : Found) (x : Described) → f ≡ At i → f ≡ foundOf (idIn (tables .others) 0 id)
+        → x ≡ programObject (programBy (tables .programs) (tables .names) (otherName (tables .names) (getD (tables .others) i []))) → Listed x
+        → Answered (symbolAttributes tables service id body)
     unfolding symbolAttributes
-    symbol-other i f x q e p l = other-by i f x (idIn others 0 id) (idIn tags 0 id) q e p l
+    symbol-other i f x q e p l = other-by i f x (idIn (tables .others) 0 id) (idIn (tables .tags) 0 id) q e p l
 
-    pub symbol-tag : (f : Found) → f ≡ Nothing → f ≡ foundOf (idIn others 0 id) → Answered (tagList tags service id body)
+    pub symbol-tag : (f : Found) → f ≡ Nothing → f ≡ foundOf (idIn (tables .others) 0 id) → Answered (tagList (tables .tags) service id body)
         → Answered (symbolAttributes tables service id body)
     unfolding symbolAttributes tagList
-    symbol-tag f q e l = tag-only f (idIn others 0 id) (idIn tags 0 id) q e l
+    symbol-tag f q e l = tag-only f (idIn (tables .others) 0 id) (idIn (tables .tags) 0 id) q e l
 
 -- what a lookup by ID found is a row
 pub id-inside : (rows : List Row) (scope id i : ℕ) (f : Found) → f ≡ At i → f ≡ foundOf (idIn rows scope id) → i < length rows

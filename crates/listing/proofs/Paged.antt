@@ -17,11 +17,11 @@ use Rattle.definition.specs.Page.{idOf}
 use Rattle.definition.specs.Symbols.{Symbol as Defined, tagSymbol, otherSymbol, attributesOf, entryOf, due}
 use Rattle.definition.proofs.Facts.{tag-elements}
 use Rattle.model.specs.Least.{nextIn}
-use Rattle.model.specs.Tables.{tablesOf}
+use Rattle.model.specs.Tables.{SomeValid, forPage}
 use Rattle.model.specs.declared.least.Next.{Next}
 use Rattle.model.specs.declared.least.Next.the-variants.{Tag, Other, Nothing}
 use Rattle.model.proofs.Due.{NextDue, none-due, tag-due, other-due, next-due}
-use Rattle.listing.specs.Entries.{made, Listable, TagMade, OtherMade, EntryStep, put-in, left-out, Stepped, more, full, done, SomeValid}
+use Rattle.listing.specs.Entries.{made, Listable, TagMade, OtherMade, EntryStep, put-in, left-out, Stepped, more, full, done}
 use Rattle.listing.specs.declared.entries.Symbol.{Symbol}
 use Rattle.listing.specs.declared.pages.Step.{Step}
 use Rattle.listing.specs.declared.pages.Step.the-variants.{Done}
@@ -70,10 +70,12 @@ module _ (t : Tables) (scope bound : ℕ) (attributes : List ℕ) where
     none-stepped new (none-due e) p = done e p
 
 module _ (structures tags others : List Row) (names tagNames : List ℕ) (scope bound : ℕ) (found : Next) (is : found ≡ nextIn tags others scope bound) where
-  module _ (members programs : List Row) (templates : List ℕ) (memory : ℕ)
-      (v : valid (tablesOf structures members programs tags others names tagNames templates) memory ≡ true) where
+  abbrev lent : Tables → Tables
+  lent = forPage structures tags others names tagNames
+
+  module _ (o : Tables) (memory : ℕ) (v : valid (lent o) memory ≡ true) where
     abbrev set : Tables
-    set = tablesOf structures members programs tags others names tagNames templates
+    set = lent o
 
     due-of : (attributes : List ℕ) (f : Next) → found ≡ f → NextDue scope attributes set bound f
     due-of attributes f q = rw (← is, q) at (next-due scope attributes set memory v bound)
@@ -83,31 +85,32 @@ module _ (structures tags others : List Row) (names tagNames : List ℕ) (scope 
         → EntryStep (le32 (s .id) ++ attributesOf (made name s) attributes) limit used id old r new → Stepped set scope attributes limit used bound old r new
     tag-step attributes i id limit used name s old new r q n m x =
         tag-stepped set scope bound attributes limit used old name s i id r new (due-of attributes (Tag i id) q)
-        (rw n (m members programs tags others names tagNames templates)) x
+        (rw n (m set)) x
 
     pub other-step : (attributes : List ℕ) (i id limit used : ℕ) (name : List ℕ) (s : Symbol) (old new : List ℕ) (r : Step) → found ≡ Other i id
         → name ≡ otherName names (getD others i []) → OtherMade (getD others i []) s
         → EntryStep (le32 (s .id) ++ attributesOf (made name s) attributes) limit used id old r new → Stepped set scope attributes limit used bound old r new
     other-step attributes i id limit used name s old new r q n m x =
         other-stepped set scope bound attributes limit used old name s i id r new (due-of attributes (Other i id) q)
-        (rw n (m structures members programs tags others names tagNames templates)) x
+        (rw n (m set)) x
 
     pub none-step : (attributes : List ℕ) (limit used : ℕ) (old : List ℕ) → found ≡ Nothing → Stepped set scope attributes limit used bound old Done old
     none-step attributes limit used old q = none-stepped set scope bound attributes limit used old old (due-of attributes Nothing q) refl
 
-  module _ (w : SomeValid structures tags others names tagNames) where
+  module _ (w : SomeValid lent) where
+    here : (f : Next) → found ≡ f → NextDue scope [] (lent (w .rest)) bound f
+    here = due-of (w .rest) (w .memory) (w .ok) []
+
     pub tag-there : (i id : ℕ) → found ≡ Tag i id → i < length tags
-    tag-there i id q = tag-inside (set (w .members) (w .programs) (w .templates) (w .memory) (w .ok)) scope bound [] i id
-        (due-of (w .members) (w .programs) (w .templates) (w .memory) (w .ok) [] (Tag i id) q)
+    tag-there i id q = tag-inside (lent (w .rest)) scope bound [] i id (here (Tag i id) q)
 
     pub other-there : (i id : ℕ) → found ≡ Other i id → i < length others
-    other-there i id q = other-inside (set (w .members) (w .programs) (w .templates) (w .memory) (w .ok)) scope bound [] i id
-        (due-of (w .members) (w .programs) (w .templates) (w .memory) (w .ok) [] (Other i id) q)
+    other-there i id q = other-inside (lent (w .rest)) scope bound [] i id (here (Other i id) q)
 
     -- its row makes a symbol
     pub tag-listable : (i id : ℕ) → found ≡ Tag i id → Listable (getD tags i [])
     tag-listable i id q =
-        let t = set (w .members) (w .programs) (w .templates) (w .memory) (w .ok) in
+        let t = lent (w .rest) in
         let h = tag-there i id q in
         (access-small t (w .memory) (w .ok) i h, tag-elements t (w .memory) (w .ok) i h .0)
 

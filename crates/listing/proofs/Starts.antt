@@ -31,13 +31,13 @@ use Rattle.path.specs.declared.Object.{Object}
 use Rattle.path.specs.declared.Object.the-variants.{Of, Nothing}
 use Rattle.path.proofs.Segments.{segments-end, segments-rest, no-head, first-at, none-at}
 use Rattle.model.specs.Rows.{foundOf}
-use Rattle.model.specs.Tables.{tablesOf}
+use Rattle.model.specs.Tables.{SomeValid, WhereValid, forScope, forList, forPage}
+use Rattle.model.proofs.Lent.{some-valid}
 use Rattle.model.specs.declared.lookup.Found.{Found}
 use Rattle.model.specs.declared.lookup.Found.the-variants.{At, Nothing as NotFound}
 use Rattle.model.proofs.Cases.{found-some, found-none}
 use Rattle.listing.specs.Objects.{programBy, countIn}
-use Rattle.listing.specs.Entries.{EachValid, SomeValid}
-use Rattle.listing.specs.Pages.{beginOf, firstOf, startWith, BeginsAt, PageBegins, SomeListed, Lists}
+use Rattle.listing.specs.Pages.{beginOf, firstOf, startWith, BeginsAt, PageBegins, Lists}
 use Rattle.listing.specs.declared.requests.Begin.{Begin}
 use Rattle.listing.specs.declared.requests.Begin.the-variants.{From, Unknown}
 use Rattle.listing.specs.declared.requests.First.{First}
@@ -134,10 +134,9 @@ unnamed t s (b ∷ []) e = refl
 unnamed t s (b ∷ (c ∷ [])) e = rw e
 unnamed t s (b ∷ (c ∷ (d ∷ l))) e = refl
 
-program-same : (t : Tables) (programs : List Row) (names name : List ℕ) → t .programs ≡ programs → t .names ≡ names
-    → programOf t name ≡ programBy programs names name
+program-same : (t : Tables) (name : List ℕ) → programOf t name ≡ programBy (t .programs) (t .names) name
 unfolding programOf programBy
-program-same t programs names name p q = rw (p, q)
+program-same t name = refl
 
 -- the segment that was found at the start of the path
 module _ (path : List ℕ) (s : Segment) (found : Decoded path 0 s) (f : First) (is : f ≡ firstOf s) where
@@ -168,8 +167,9 @@ module _ (path : List ℕ) (s : Segment) (found : Decoded path 0 s) (f : First) 
           → ((l : List Defined) → segmentsFrom path next ≡ some l → startNamed o l ≡ beginOf r)
           → PageBegins programs names path r
       by-name o r e h = record {
-        is = λ t p q. first-at path 0 (λ l. pageStart t l ≡ beginOf r) (symbol (part path start n)) next symbol-at
-            (λ l g. named t (part path start n) o l (program-same t programs names (part path start n) p q ∙ rw (← is-name) e) ∙ h l g);
+        is = λ rest. let t = forScope programs names rest in
+            first-at path 0 (λ l. pageStart t l ≡ beginOf r) (symbol (part path start n)) next symbol-at
+            (λ l g. named t (part path start n) o l (program-same t (part path start n) ∙ rw (← is-name) e) ∙ h l g);
       }
 
       module _ (v : Found) (v-is : v ≡ foundOf (programBy programs names name)) where
@@ -183,7 +183,8 @@ module _ (path : List ℕ) (s : Segment) (found : Decoded path 0 s) (f : First) 
   module _ (programs : List Row) (names : List ℕ) (r : Begin) (x : BeginsAt path 0 0 r) where
     at-once : (u : Defined) (next : ℕ) → segmentAt path 0 ≡ step u next → nameOf u ≡ none → PageBegins programs names path r
     at-once u next e n = record {
-      is = λ t p q l g. first-at path 0 (λ l. segments path ≡ some l → pageStart t l ≡ beginOf r) u next e
+      is = λ o l g. let t = forScope programs names o in
+          first-at path 0 (λ l. segments path ≡ some l → pageStart t l ≡ beginOf r) u next e
           (λ l y z. unnamed t u l n ∙ x .is (u ∷ l) z) l g g;
     }
 
@@ -193,7 +194,8 @@ module _ (path : List ℕ) (s : Segment) (found : Decoded path 0 s) (f : First) 
 
     empty : segmentAt path 0 ≡ cut → PageBegins programs names path r
     empty e = record {
-      is = λ t p q l g. none-at path 0 (λ l. segments path ≡ some l → pageStart t l ≡ beginOf r) e (no-segments t) l g g;
+      is = λ o l g. let t = forScope programs names o in
+          none-at path 0 (λ l. segments path ≡ some l → pageStart t l ≡ beginOf r) e (no-segments t) l g g;
     }
 
     plain-by : (u : Segment) → segmentAt path 0 ≡ stepOf path u → Other ≡ firstOf u → PageBegins programs names path r
@@ -214,46 +216,44 @@ pub ruleset page-starts = (first-name-fits, behind-name, named-known, named-unkn
 
 module _ (structures programs tags others : List Row) (names tagNames : List ℕ) (service : ℕ) (path body : List ℕ) (limit : ℕ) (old new : List ℕ) (r : ℕ)
     (b : Begin) (starts-at : PageBegins programs names path b) where
-  abbrev set : (members : List Row) (templates : List ℕ) → Tables
-  set members templates = tablesOf structures members programs tags others names tagNames templates
+  abbrev lent : Tables → Tables
+  lent = forList structures programs tags others names tagNames
 
   abbrev Listed : Type 0
   Listed = Lists structures programs tags others names tagNames service path body limit old r new
 
   lists-by : (s : Option Start) → beginOf b ≡ s
-      → ((members : List Row) (templates : List ℕ) (memory : ℕ) → valid (set members templates) memory ≡ true
-      → Laid limit (pageFrom (set members templates) service s body limit) old r new) → Listed
+      → WhereValid lent (λ t. Laid limit (pageFrom t service s body limit) old r new) → Listed
   unfolding listSymbols
-  lists-by s e h = record {
-    is = λ members templates memory v l g. rw (starts-at .is (set members templates) refl refl l g, e) (h members templates memory v);
-  }
+  lists-by s e h = record { is = λ o memory v l g. rw (starts-at .is (lent o) l g, e) (h o memory v) }
 
   pub lists-unknown : b ≡ Unknown → Laid limit (fail service pathUnknown) old r new → Listed
-  lists-unknown e h = lists-by none (ap beginOf e) (λ members templates memory v. h)
+  lists-unknown e h = lists-by none (ap beginOf e) (λ o memory v. h)
 
   module _ (scope start : ℕ) (known : b ≡ From scope start) (count : Count) (count-is : count ≡ countIn body) where
     abbrev begin : Start
     begin = record { scope = scope; id = start }
 
     pub lists-missing : count ≡ Missing → Laid limit (fail service tooShort) old r new → Listed
-    lists-missing e h = lists-by (some begin) (ap beginOf known) (λ members templates memory v. rw (counted-none body (sym e ∙ count-is)) h)
+    lists-missing e h = lists-by (some begin) (ap beginOf known) (λ o memory v. rw (counted-none body (sym e ∙ count-is)) h)
 
     module _ (c n : ℕ) (counted-is : count ≡ Counted c) (n-is : n ≡ c) (all : Bool) (all-is : all ≡ every isListed (numbers n (drop 2 body))) where
       listed-as : counted body ≡ some (numbers n (drop 2 body))
       listed-as = counted-some body n (ap Counted n-is ∙ sym counted-is ∙ count-is)
 
       pub lists-refused : all ≡ false → Laid limit (fail service noAttribute) old r new → Listed
-      lists-refused e h = lists-by (some begin) (ap beginOf known) (λ members templates memory v. rw (listed-as, ← all-is, e) h)
+      lists-refused e h = lists-by (some begin) (ap beginOf known) (λ o memory v. rw (listed-as, ← all-is, e) h)
 
       pub lists-page : all ≡ true
-          → EachValid structures tags others names tagNames
+          → WhereValid (forPage structures tags others names tagNames)
           (λ t. Laid limit (pageReply service (due t scope (numbers n (drop 2 body)) start) limit) old r new) → Listed
       lists-page e h =
-          lists-by (some begin) (ap beginOf known) (λ members templates memory v. rw (listed-as, ← all-is, e) (h members programs templates memory v))
+          lists-by (some begin) (ap beginOf known) (λ o memory v. rw (listed-as, ← all-is, e) (h (lent o) memory v))
 
-module _ (structures programs tags others : List Row) (names tagNames : List ℕ) (w : SomeListed structures programs tags others names tagNames) where
-  pub some-valid : SomeValid structures tags others names tagNames
-  some-valid = record { members = w .members; programs = programs; templates = w .templates; memory = w .memory; ok = w .ok }
+module _ (structures programs tags others : List Row) (names tagNames : List ℕ)
+    (w : SomeValid (forList structures programs tags others names tagNames)) where
+  pub page-valid : SomeValid (forPage structures tags others names tagNames)
+  page-valid = some-valid _ _ _ (w .ok) refl
 
   pub few-programs : length programs ≤ 65535
   unfolding valid t1

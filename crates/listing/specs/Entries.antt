@@ -11,10 +11,10 @@ use Rattle.laws.specs.Tests.{every, pairs}
 use Rattle.definition.specs.Bytes.{le16, le32, part}
 use Rattle.definition.specs.Reply.{reply, fail, partial, tooLarge}
 use Rattle.definition.specs.Tables.{Tables, Row, tagName, tagElements, tagAccess, otherName}
-use Rattle.definition.specs.Valid.{idsDiffer, valid}
+use Rattle.definition.specs.Valid.{idsDiffer}
 use Rattle.definition.specs.Page.{Entry}
 use Rattle.definition.specs.Symbols.{Symbol as Defined, tagSymbol, otherSymbol, due}
-use Rattle.model.specs.Tables.{tablesOf}
+use Rattle.model.specs.Tables.{Whatever, forSymbol}
 use Rattle.listing.specs.declared.pages.Step.{Step}
 use Rattle.listing.specs.declared.pages.Step.the-variants.{More, Full, Done}
 use Rattle.listing.specs.declared.entries.Symbol.{Symbol}
@@ -46,14 +46,10 @@ Listable r = (tagAccess r ≤ 3) × (0 < tagElements r)
 
 -- a tag's row, its name aside, made a symbol
 abbrev pub TagMade : (structures : List Row) (r : Row) → Symbol → Type 0
-TagMade structures r s =
-    (members programs tags others : List Row) (names tagNames templates : List ℕ)
-    → made (tagName tagNames r) s ≡ tagSymbol (tablesOf structures members programs tags others names tagNames templates) r
+TagMade structures r s = Whatever (forSymbol structures) (λ t. made (tagName (t .tagNames) r) s ≡ tagSymbol t r)
 
 abbrev pub OtherMade : (r : Row) → Symbol → Type 0
-OtherMade r s =
-    (structures members programs tags others : List Row) (names tagNames templates : List ℕ)
-    → made (otherName names r) s ≡ otherSymbol (tablesOf structures members programs tags others names tagNames templates) r
+OtherMade r s = (t : Tables) → made (otherName (t .names) r) s ≡ otherSymbol t r
 
 -- what a step of a page leaves: one entry more, its ID plus one as the next bound and any hint, or an entry that does not fit, or nothing due
 pub data Stepped (t : Tables) (scope : ℕ) (attributes : List ℕ) (limit used bound : ℕ) (old : List ℕ) : Step → List ℕ → Type 0 where
@@ -68,21 +64,6 @@ pub data EntryStep (bytes : List ℕ) (limit used id : ℕ) (old : List ℕ) : S
   put-in : {u b h : ℕ} {new : List ℕ} → b ≡ suc id → u ≡ used + length bytes → u ≤ limit → new ≡ put old used bytes
       → EntryStep bytes limit used id old (More u b h) new
   left-out : {new : List ℕ} → limit < used + length bytes → new ≡ old → EntryStep bytes limit used id old Full new
-
--- what holds of every valid table set with these tables
-abbrev pub EachValid : (structures tags others : List Row) (names tagNames : List ℕ) → (Tables → Type 0) → Type 0
-EachValid structures tags others names tagNames P =
-    (members programs : List Row) (templates : List ℕ) (memory : ℕ)
-    → valid (tablesOf structures members programs tags others names tagNames templates) memory ≡ true
-    → P (tablesOf structures members programs tags others names tagNames templates)
-
--- there is such a set
-pub record SomeValid (structures tags others : List Row) (names tagNames : List ℕ) : Type 0 where
-  pub members : List Row
-  pub programs : List Row
-  pub templates : List ℕ
-  pub memory : ℕ
-  pub ok : valid (tablesOf structures members programs tags others names tagNames templates) memory ≡ true
 
 -- T3 between tags, and between a tag and another symbol: those of one scope have different IDs
 abbrev pub IdsApart : (tags others : List Row) → Type 0

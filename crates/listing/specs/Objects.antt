@@ -8,10 +8,9 @@ use Rattle.laws.specs.Pick.{pick, isSome}
 use Rattle.definition.specs.Bytes.{le16, le32, u16At, counted}
 use Rattle.definition.specs.Reply.{fail, pathUnknown}
 use Rattle.definition.specs.Names.{isProgramName, afterPrefix}
-use Rattle.definition.specs.Tables.{Tables, Row, handle, memberCount, templateLength, structureSize}
+use Rattle.definition.specs.Tables.{Row, handle, memberCount, templateLength, structureSize}
 use Rattle.definition.specs.Lookup.{programIn, idIn}
 use Rattle.definition.specs.Attributes.{programReference, listReply}
-use Rattle.model.specs.Tables.{tablesOf}
 use Rattle.listing.specs.declared.values.Value.{Value}
 use Rattle.listing.specs.declared.values.Value.the-variants.{Byte, Short, Long, Reference, Unknown}
 use Rattle.listing.specs.declared.attributes.Described.{Described}
@@ -55,8 +54,3 @@ programObject (some k) = Program k
 unfoldable pub tagList : (tags : List Row) (service id : ℕ) (body : List ℕ) → List ℕ
 tagList tags service id body =
     pick (isSome (idIn tags 0 id)) (listReply service (objectValue Plain) (counted body)) (fail service pathUnknown)
-
--- what holds of every table set with these symbols
-abbrev pub WithSymbols : (programs tags others : List Row) (names : List ℕ) → (Tables → Type 0) → Type 0
-WithSymbols programs tags others names P =
-    (structures members : List Row) (tagNames templates : List ℕ) → P (tablesOf structures members programs tags others names tagNames templates)

@@ -1,18 +1,16 @@
 -- A request for a page of symbols: where the page starts, and its answer.
 use mathlib.Core.Path.{_≡_}
-use mathlib.Core.Bool.{true}
 use mathlib.Core.List.{List, [], _∷_}
 use mathlib.Core.Option.{Option, none, some}
 use Prim.Native.Nat.{ℕ}
 use Rattle.definition.specs.Segment.{Segment as Defined, segments, segmentsFrom}
 use Rattle.definition.specs.Request.{objectOf, symbolInstance}
-use Rattle.definition.specs.Tables.{Tables, Row}
-use Rattle.definition.specs.Valid.{valid}
+use Rattle.definition.specs.Tables.{Row}
 use Rattle.definition.specs.Symbols.{Start, startIn, pageStart, listSymbols}
 use Rattle.cip.specs.Writes.{Laid}
 use Rattle.path.specs.declared.Segment.{Segment}
 use Rattle.path.specs.declared.Segment.the-variants.{Port, Class, Instance, Element, Attribute, Symbol, Invalid}
-use Rattle.model.specs.Tables.{tablesOf}
+use Rattle.model.specs.Tables.{Whatever, WhereValid, forScope, forList}
 use Rattle.listing.specs.declared.requests.Begin.{Begin}
 use Rattle.listing.specs.declared.requests.Begin.the-variants.{From, Unknown}
 use Rattle.listing.specs.declared.requests.First.{First}
@@ -44,20 +42,11 @@ pub record BeginsAt (path : List ℕ) (at scope : ℕ) (r : Begin) : Type 0 wher
   pub is : (l : List Defined) → segmentsFrom path at ≡ some l → startWith scope l ≡ beginOf r
 
 pub record PageBegins (programs : List Row) (names path : List ℕ) (r : Begin) : Type 0 where
-  pub is : (t : Tables) → t .programs ≡ programs → t .names ≡ names → (l : List Defined) → segments path ≡ some l → pageStart t l ≡ beginOf r
+  pub is : Whatever (forScope programs names) (λ t. (l : List Defined) → segments path ≡ some l → pageStart t l ≡ beginOf r)
 
 -- ---- the answer
 
--- a valid table set with these tables
-pub record SomeListed (structures programs tags others : List Row) (names tagNames : List ℕ) : Type 0 where
-  pub members : List Row
-  pub templates : List ℕ
-  pub memory : ℕ
-  pub ok : valid (tablesOf structures members programs tags others names tagNames templates) memory ≡ true
-
 pub record Lists (structures programs tags others : List Row) (names tagNames : List ℕ) (service : ℕ) (path body : List ℕ) (limit : ℕ)
     (old : List ℕ) (r : ℕ) (new : List ℕ) : Type 0 where
-  pub is : (members : List Row) (templates : List ℕ) (memory : ℕ)
-      → valid (tablesOf structures members programs tags others names tagNames templates) memory ≡ true
-      → (l : List Defined) → segments path ≡ some l
-      → Laid limit (listSymbols (tablesOf structures members programs tags others names tagNames templates) service l body limit) old r new
+  pub is : WhereValid (forList structures programs tags others names tagNames)
+      (λ t. (l : List Defined) → segments path ≡ some l → Laid limit (listSymbols t service l body limit) old r new)

@@ -6,8 +6,7 @@ use lib.ListN.{length, getD}
 use Rattle.laws.specs.Pick.{pick}
 use Rattle.definition.specs.Bytes.{u16At, u32At, part}
 use Rattle.definition.specs.Reply.{reply, fail, success, partial, tooLarge, tooShort, beyondEnd}
-use Rattle.definition.specs.Tables.{Tables, Row, templateStart, templateLength}
-use Rattle.model.specs.Tables.{tablesOf}
+use Rattle.definition.specs.Tables.{Row, templateStart, templateLength}
 
 -- `sendTemplate`, from a position of the store
 unfoldable pub templateSent : (templates : List ℕ) (service from due limit : ℕ) → List ℕ
@@ -25,8 +24,3 @@ templateAsked templates start size service body limit =
 -- each template lies in a store of so many bytes
 abbrev pub InStore : ℕ → List Row → Type 0
 InStore n structures = (i : ℕ) → i < length structures → templateStart (getD structures i []) + templateLength (getD structures i []) ≤ n
-
--- what holds of every table set with these structures and templates
-abbrev pub WithTemplates : (structures : List Row) (templates : List ℕ) → (Tables → Type 0) → Type 0
-WithTemplates structures templates P =
-    (members programs tags others : List Row) (names tagNames : List ℕ) → P (tablesOf structures members programs tags others names tagNames templates)

@@ -22,8 +22,9 @@ ghost use Rattle.definition.specs.Attributes.{attributeEntry, attributeEntries,
 ghost use Rattle.definition.specs.Answer.{capped};
 ghost use Rattle.cip.specs.Writes.{Written, Laid};
 ghost use Rattle.model.specs.Rows.{foundOf};
+ghost use Rattle.model.specs.Tables.{Whatever, forAttributes};
 ghost use Rattle.listing.specs.Values.{valueOf, valueBytes};
-ghost use Rattle.listing.specs.Objects.{countIn, objectValue, unknownWord, structureObject, programBy, programObject, tagList, WithSymbols};
+ghost use Rattle.listing.specs.Objects.{countIn, objectValue, unknownWord, structureObject, programBy, programObject, tagList};
 ghost use Rattle.listing.specs.declared.attributes.Described.the-variants.{Structure, Program};
 
 /// The status word of an unknown attribute.
@@ -283,7 +284,7 @@ pub fn symbol_attributes(
     buf: &mut [u8],
 ) -> usize
     requires { ⌜ room limit ≤ length (now buf) ⌝ }
-    ensures { λ r. ⌜ WithSymbols (now (programs .entry)) (now (tags .entry)) (now (others .entry)) (now (names .entry))
+    ensures { λ r. ⌜ Whatever (forAttributes (now (programs .entry)) (now (tags .entry)) (now (others .entry)) (now (names .entry)))
         (λ t. Laid limit (capped service limit (symbolAttributes t service id (now (body .entry)))) (now (buf .entry)) r (now (buf .exit))) ⌝ }
 {
     match model::lookup::find_other_id(others, 0, id) {

@@ -26,7 +26,8 @@ ghost use Rattle.cip.specs.Statuses.{statusOf, hasWord};
 ghost use Rattle.cip.specs.Writes.{Laid};
 ghost use Rattle.laws.specs.Tests.{every};
 ghost use Rattle.model.specs.Least.{nextIn};
-ghost use Rattle.listing.specs.Entries.{made, EntryStep, Stepped, EachValid, SomeValid, IdsApart, Further, stopped};
+ghost use Rattle.model.specs.Tables.{SomeValid, WhereValid, forPage};
+ghost use Rattle.listing.specs.Entries.{made, EntryStep, Stepped, IdsApart, Further, stopped};
 
 /// A step of a page: where the entries end, the least ID of the next one and the tag to try first; an entry that does not fit; nothing due.
 pub enum Step {
@@ -151,9 +152,10 @@ pub fn page_step(
     used: usize,
     buf: &mut [u8],
 ) -> Step
-    requires { ⌜ SomeValid (now structures) (now tags) (now others) (now names) (now «tag_names») × (2 + 2 * n ≤ length (now body)) × (n ≤ 65535)
+    requires { ⌜ SomeValid (forPage (now structures) (now tags) (now others) (now names) (now «tag_names»))
+        × (2 + 2 * n ≤ length (now body)) × (n ≤ 65535)
         × (used ≤ limit) × (limit ≤ length (now buf)) ⌝ }
-    ensures { λ r. ⌜ EachValid (now (structures .entry)) (now (tags .entry)) (now (others .entry)) (now (names .entry)) (now («tag_names» .entry))
+    ensures { λ r. ⌜ WhereValid (forPage (now (structures .entry)) (now (tags .entry)) (now (others .entry)) (now (names .entry)) (now («tag_names» .entry)))
         (λ t. Stepped t scope (numbers n (drop 2 (now (body .entry)))) limit used bound (now (buf .entry)) r (now (buf .exit)))
         × Further used limit r ⌝ }
 {
@@ -244,9 +246,10 @@ pub fn put_page(
     limit: usize,
     buf: &mut [u8],
 ) -> usize
-    requires { ⌜ SomeValid (now structures) (now tags) (now others) (now names) (now «tag_names») × (2 + 2 * n ≤ length (now body)) × (n ≤ 65535)
+    requires { ⌜ SomeValid (forPage (now structures) (now tags) (now others) (now names) (now «tag_names»))
+        × (2 + 2 * n ≤ length (now body)) × (n ≤ 65535)
         × (room limit ≤ length (now buf)) ⌝ }
-    ensures { λ r. ⌜ EachValid (now (structures .entry)) (now (tags .entry)) (now (others .entry)) (now (names .entry)) (now («tag_names» .entry))
+    ensures { λ r. ⌜ WhereValid (forPage (now (structures .entry)) (now (tags .entry)) (now (others .entry)) (now (names .entry)) (now («tag_names» .entry)))
         (λ t. Laid limit (pageReply service (due t scope (numbers n (drop 2 (now (body .entry)))) start) limit) (now (buf .entry)) r
         (now (buf .exit))) ⌝ }
 {

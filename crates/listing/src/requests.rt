@@ -15,7 +15,8 @@ ghost use lib.ListN.{length};
 ghost use Rattle.laws.specs.Pick.{isSome};
 ghost use Rattle.definition.specs.Reply.{room};
 ghost use Rattle.definition.specs.Segment.{segments, segmentsFrom};
-ghost use Rattle.listing.specs.Pages.{firstOf, BeginsAt, PageBegins, SomeListed, Lists};
+ghost use Rattle.model.specs.Tables.{SomeValid, forList};
+ghost use Rattle.listing.specs.Pages.{firstOf, BeginsAt, PageBegins, Lists};
 
 /// Where a page starts: a scope and the start ID; or a path that no page has.
 pub enum Begin {
@@ -96,8 +97,8 @@ pub fn list_symbols(
     limit: usize,
     buf: &mut [u8],
 ) -> usize
-    requires { ⌜ (isSome (segments (now path)) ≡ true) × SomeListed (now structures) (now programs) (now tags) (now others) (now names)
-        (now «tag_names») × (room limit ≤ length (now buf)) ⌝ }
+    requires { ⌜ (isSome (segments (now path)) ≡ true) × SomeValid
+        (forList (now structures) (now programs) (now tags) (now others) (now names) (now «tag_names»)) × (room limit ≤ length (now buf)) ⌝ }
     ensures { λ r. ⌜ Lists (now (structures .entry)) (now (programs .entry)) (now (tags .entry)) (now (others .entry)) (now (names .entry))
         (now («tag_names» .entry)) service (now (path .entry)) (now (body .entry)) limit (now (buf .entry)) r (now (buf .exit)) ⌝ }
 {

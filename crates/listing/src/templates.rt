@@ -15,7 +15,8 @@ ghost use Rattle.definition.specs.Lookup.{templateIn};
 ghost use Rattle.definition.specs.Answer.{readTemplate};
 ghost use Rattle.cip.specs.Statuses.{statusOf};
 ghost use Rattle.cip.specs.Writes.{Laid};
-ghost use Rattle.listing.specs.Templates.{templateSent, templateAsked, InStore, WithTemplates};
+ghost use Rattle.model.specs.Tables.{Whatever, forTemplate};
+ghost use Rattle.listing.specs.Templates.{templateSent, templateAsked, InStore};
 
 /// 0x06 if more is due than is sent.
 fn part_status(due: usize, space: usize) -> Status
@@ -107,7 +108,7 @@ pub fn read_template<'a>(
     buf: &mut [u8],
 ) -> usize
     requires { ⌜ InStore (length (now templates)) (now structures) × (room limit ≤ length (now buf)) ⌝ }
-    ensures { λ r. ⌜ WithTemplates (now (structures .entry)) (now (templates .entry))
+    ensures { λ r. ⌜ Whatever (forTemplate (now (structures .entry)) (now (templates .entry)))
         (λ t. Laid limit (readTemplate t service (templateIn (now (structures .entry)) id) (now (body .entry)) limit) (now (buf .entry)) r
         (now (buf .exit))) ⌝ }
 {

@@ -1,4 +1,5 @@
 pub mod Cases
 pub mod Due
 pub mod Laws
+pub mod Lent
 pub mod Seeking

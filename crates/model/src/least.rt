@@ -5,8 +5,6 @@ use crate::columns::TAG_ID;
 use crate::columns::TAG_SCOPE;
 use cip::numbers;
 ghost use mathlib.Core.Path.{_≡_};
-ghost use Prim.Native.Nat.{_≤_};
-ghost use lib.ListN.{length};
 ghost use Rattle.model.specs.Least.{nearerId, leastStep, leastIn, tagOr, onlyOther, nearest, nextIn};
 
 /// A row's place and its ID.

@@ -9,7 +9,7 @@ use cip::codes::REAL;
 use cip::numbers;
 ghost use mathlib.Core.Path.{_≡_};
 ghost use mathlib.Core.List.{[]};
-ghost use Prim.Native.Nat.{_+_, _-_, _%_, _≤_, _<_};
+ghost use Prim.Native.Nat.{_+_, _-_, _≤_, _<_};
 ghost use lib.ListN.{length, getD};
 ghost use Rattle.definition.specs.Tables.{structureSize, handle, templateId};
 ghost use Rattle.definition.specs.Types.{atomicSize, hasBits, isStructure, sizeIn, typeHeader, symbolType};

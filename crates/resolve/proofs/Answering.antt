@@ -26,7 +26,7 @@ use Rattle.definition.proofs.Inside.{tag-stands, target-lies-in-its-tag}
 use Rattle.cip.specs.declared.Status.{Status}
 use Rattle.cip.specs.declared.Status.the-variants.{Denied}
 use Rattle.model.specs.Shapes.{indexed3, lengths3, shapesOf}
-use Rattle.model.specs.Tables.{tablesOf, targetOf, Aimed}
+use Rattle.model.specs.Tables.{SomeValid, Whatever, forPath, targetOf, Aimed}
 use Rattle.model.specs.declared.Target.{Target}
 use Rattle.model.proofs.Laws.{indexed-lengths}
 use Rattle.resolve.specs.declared.places.Place.{Place}
@@ -40,7 +40,7 @@ use Rattle.resolve.specs.Paths.{left}
 use Rattle.resolve.specs.Places.{placeOf, movedOf, openLengths, onWalk}
 use Rattle.resolve.specs.Starts.{StartInside, BeginsPath}
 use Rattle.resolve.specs.Steps.{Standing, walked}
-use Rattle.resolve.specs.Answers.{Tabled, FoundAs, Answers, Resolves, Targets, Aims, wholeRow, closedTo, deniedTo, refusedTo}
+use Rattle.resolve.specs.Answers.{FoundAs, Answers, Resolves, Targets, Aims, wholeRow, closedTo, deniedTo, refusedTo}
 use Rattle.resolve.proofs.Lefts.{left-whole, some-left}
 use Rattle.resolve.proofs.Stepping.{memory-small, programs-few, walk-bare}
 
@@ -73,26 +73,23 @@ whole-lengths row shapes k e =
 
 -- ---- the path
 
-module _ (structures members programs tags : List Row) (names tagNames : List ℕ) (tabled : Tabled structures members programs tags names tagNames) where
+module _ (structures members programs tags : List Row) (names tagNames : List ℕ)
+    (w : SomeValid (forPath structures members programs tags names tagNames)) where
+  abbrev tables : Tables
+  tables = forPath structures members programs tags names tagNames (w .rest)
+
   pub tabled-programs : length programs ≤ 16
-  tabled-programs = programs-few (tablesOf structures members programs tags (tabled .others) names tagNames (tabled .templates)) (tabled .memory) (tabled .ok)
+  tabled-programs = programs-few tables (w .memory) (w .ok)
 
   module _ (i : ℕ) (h : i < length tags) where
     pub tabled-elements : 0 < tagElements (getD tags i [])
-    tabled-elements = tag-elements (tablesOf structures members programs tags (tabled .others) names tagNames (tabled .templates)) (tabled .memory)
-        (tabled .ok) i h .0
+    tabled-elements = tag-elements tables (w .memory) (w .ok) i h .0
 
     pub tabled-standing : (f : Flags) (g : Place) → placeOf g ≡ wholeRow i (getD tags i []) → Standing structures members names (placeOf g)
     unfolding wholeTag wholeRow
     tabled-standing f g e = rw e (record {
-      programs = programs;
-      tags = tags;
-      others = tabled .others;
-      tagNames = tagNames;
-      templates = tabled .templates;
-      memory = tabled .memory;
-      ok = tabled .ok;
-      stands = tag-stands (tablesOf structures members programs tags (tabled .others) names tagNames (tabled .templates)) f (tabled .memory) (tabled .ok) i h;
+      valid-in = record { rest = tables; memory = w .memory; ok = w .ok };
+      stands = tag-stands tables f (w .memory) (w .ok) i h;
     })
 
 module _ (structures members programs tags : List Row) (names tagNames : List ℕ) (f : Flags) (path : List ℕ) (r : Start)
@@ -100,18 +97,15 @@ module _ (structures members programs tags : List Row) (names tagNames : List �
   abbrev Result : Resolved → Type 0
   Result = Resolves structures members programs tags names tagNames f path
 
-  of-left : (x : Resolved) → ((others : List Row) (templates : List ℕ)
-      → Answers structures (resolve (tablesOf structures members programs tags others names tagNames templates) f (left path 0)) x) → Result x
-  of-left x h = record {
-    is = λ others templates l s.
-        subst (λ k. Answers structures (resolve (tablesOf structures members programs tags others names tagNames templates) f k) x) (left-whole path l s)
-        (h others templates);
-  }
+  abbrev lent : Tables → Tables
+  lent = forPath structures members programs tags names tagNames
+
+  of-left : (x : Resolved) → Whatever lent (λ t. Answers structures (resolve t f (left path 0)) x) → Result x
+  of-left x h = record { is = λ o l s. subst (λ k. Answers structures (resolve (lent o) f k) x) (left-whole path l s) (h o) }
 
   pub resolve-start : (s : Status) → r ≡ start.Turned s → Result (Turned s)
   resolve-start s e =
-      of-left (Turned s) (λ others templates. sym
-      (rw e at (begun .is (tablesOf structures members programs tags others names tagNames templates) refl refl refl refl)))
+      of-left (Turned s) (λ o. sym (rw e at (begun .is (lent o))))
 
   module _ (i next : ℕ) (e : r ≡ start.At i next) where
     inside : (i < length tags) × (isSome (segmentsFrom path next) ≡ true)
@@ -125,17 +119,15 @@ module _ (structures members programs tags : List Row) (names tagNames : List �
 
     module _ (first : Place) (m : Moved) (whole : placeOf first ≡ wholeRow i (getD tags i []))
         (walks : movedOf m ≡ walked structures members names f path next (placeOf first)) where
-      resolve-is : (others : List Row) (templates : List ℕ)
-          → resolve (tablesOf structures members programs tags others names tagNames templates) f (left path 0) ≡ movedOf m
+      resolve-is : Whatever lent (λ t. resolve t f (left path 0) ≡ movedOf m)
       unfolding wholeTag wholeRow
-      resolve-is others templates =
-          let t = tablesOf structures members programs tags others names tagNames templates in
-          sym (rw e at (begun .is t refl refl refl refl))
-          ∙ walk-bare structures members programs tags others names tagNames templates f (moves (left path next)) (wholeTag t i)
+      resolve-is o =
+          let t = lent o in
+          sym (rw e at (begun .is t)) ∙ walk-bare structures members names t f (moves (left path next)) (wholeTag t i)
           ∙ ap (walk (onWalk structures members names) f (moves (left path next))) (sym whole) ∙ sym walks
 
       pub resolve-moved : (x : Resolved) → Answers structures (movedOf m) x → Result x
-      resolve-moved x a = of-left x (λ others templates. rw (resolve-is others templates) a)
+      resolve-moved x a = of-left x (λ o. rw (resolve-is o) a)
 
 pub ruleset resolves = (resolve-start, resolve-moved)
 
@@ -216,50 +208,48 @@ module _ (structures members programs tags : List Row) (names tagNames path : Li
   pub target-turned : (s : Status) → r ≡ Turned s → Permitted (Turned s)
   unfolding tagTarget
   target-turned s e = record {
-    is = λ others templates l k.
-        let a : Answers structures (resolve (tablesOf structures members programs tags others names tagNames templates) f l) (Turned s) =
-        subst (Answers structures _) e (resolved .is others templates l k) in
+    is = λ o l k.
+        let a : Answers structures (resolve (forPath structures members programs tags names tagNames o) f l) (Turned s) =
+        subst (Answers structures _) e (resolved .is o l k) in
         rw a;
   }
 
-  module _ (g : Target) (e : r ≡ Found g) (b : Bool) (tested : b ≡ deniedTo structures members f writes (g .access) (g .ty)) (others : List Row)
-      (templates : List ℕ) (l : List Segment) (k : segments path ≡ some l) where
-    abbrev tables : Tables
-    tables = tablesOf structures members programs tags others names tagNames templates
+  module _ (g : Target) (e : r ≡ Found g) (b : Bool) (tested : b ≡ deniedTo structures members f writes (g .access) (g .ty)) (o : Tables)
+      (l : List Segment) (k : segments path ≡ some l) where
+    abbrev asked : Tables
+    asked = forPath structures members programs tags names tagNames o
 
-    found-as : FoundAs structures (resolve tables f l) g
-    found-as = subst (Answers structures _) e (resolved .is others templates l k)
+    found-as : FoundAs structures (resolve asked f l) g
+    found-as = subst (Answers structures _) e (resolved .is o l k)
 
-    denied-to : (lengths : List ℕ) → isDenied tables f writes (targetOf g lengths) ≡ b
-    denied-to lengths = sym (denied-is tables f writes (targetOf g lengths)) ∙ sym tested
+    denied-to : (lengths : List ℕ) → isDenied asked f writes (targetOf g lengths) ≡ b
+    denied-to lengths = sym (denied-is asked f writes (targetOf g lengths)) ∙ sym tested
 
-    denied-as : b ≡ true → Answers structures (tagTarget tables f writes l) (Turned Denied)
+    denied-as : b ≡ true → Answers structures (tagTarget asked f writes l) (Turned Denied)
     unfolding tagTarget permitted
     denied-as on = let n = denied-to (found-as .lengths) ∙ on in rw (found-as .is, n)
 
-    granted-as : b ≡ false → FoundAs structures (tagTarget tables f writes l) g
+    granted-as : b ≡ false → FoundAs structures (tagTarget asked f writes l) g
     unfolding tagTarget permitted
     granted-as off = let n = denied-to (found-as .lengths) ∙ off in
         record { lengths = found-as .lengths; is = rw (found-as .is, n); size-is = found-as .size-is }
 
   module _ (g : Target) (e : r ≡ Found g) (b : Bool) (tested : b ≡ deniedTo structures members f writes (g .access) (g .ty)) where
     pub target-denied : b ≡ true → Permitted (Turned Denied)
-    target-denied on = record { is = λ others templates l k. denied-as g e b tested others templates l k on }
+    target-denied on = record { is = λ o l k. denied-as g e b tested o l k on }
 
     pub target-found : b ≡ false → Permitted (Found g)
-    target-found off = record { is = λ others templates l k. granted-as g e b tested others templates l k off }
+    target-found off = record { is = λ o l k. granted-as g e b tested o l k off }
 
 pub ruleset targets = (target-turned, target-denied, target-found)
 
 -- ---- a found target lies in tag memory, whatever its length is
 
-pub found-aimed : (structures members programs tags others : List Row) (names tagNames templates path : List ℕ) (f : Flags) (writes : Bool) (g : Target)
-    (memory : ℕ)
-    → valid (tablesOf structures members programs tags others names tagNames templates) memory ≡ true → isSome (segments path) ≡ true
-    → Targets structures members programs tags names tagNames f writes path (Found g) → Aimed structures memory g
-found-aimed structures members programs tags others names tagNames templates path f writes g memory ok decodes r =
-    let t = tablesOf structures members programs tags others names tagNames templates in
-    let a = r .is others templates (left path 0) (some-left path 0 decodes) in
+pub found-aimed : (t : Tables) (path : List ℕ) (f : Flags) (writes : Bool) (g : Target) (memory : ℕ) → valid t memory ≡ true
+    → isSome (segments path) ≡ true
+    → Targets (t .structures) (t .members) (t .programs) (t .tags) (t .names) (t .tagNames) f writes path (Found g) → Aimed (t .structures) memory g
+found-aimed t path f writes g memory ok decodes r =
+    let a = r .is t (left path 0) (some-left path 0 decodes) in
     let l = target-lies-in-its-tag t f memory writes (left path 0) (targetOf g (a .lengths)) ok (a .is) in
     let s = a .size-is in
     record {

@@ -28,6 +28,7 @@ use Rattle.path.specs.declared.Segment.{Segment}
 use Rattle.path.specs.declared.Segment.the-variants.{Port, Class, Instance, Element, Attribute, Symbol, Invalid}
 use Rattle.path.proofs.Segments.{segments-rest, segments-head}
 use Rattle.model.specs.Rows.{foundOf}
+use Rattle.model.specs.Tables.{forStart, forTag}
 use Rattle.model.specs.declared.lookup.Found.{Found}
 use Rattle.model.specs.declared.lookup.Found.the-variants as found
 use Rattle.resolve.specs.declared.start.Start.{Start}
@@ -75,17 +76,17 @@ module _ (tags : List Row) (tagNames : List ℕ) (f : Flags) (path : List ℕ) (
   named-by : (name : List ℕ) (next : ℕ) → segmentAt path at ≡ step (symbol name) next → (o : Option ℕ) → tagIn tags tagNames scope name ≡ o
       → Scoped (startAt PathError o next)
   unfolding inScope
-  named-by name next e none g = record { is = λ t p q. rw (left-step path at decodes (symbol name) next e, p, q, g); inside = tt }
+  named-by name next e none g = record { is = λ o. rw (left-step path at decodes (symbol name) next e, g); inside = tt }
   named-by name next e (some i) g = record {
-    is = λ t p q. rw (left-step path at decodes (symbol name) next e, p, q, g);
+    is = λ o. rw (left-step path at decodes (symbol name) next e, g);
     inside = (tag-inside tags tagNames scope name i g, segments-rest path at (symbol name) next e decodes);
   }
 
   stray-by : (s : Defined) (next : ℕ) → nameOf s ≡ none → classOf s ≡ none → segmentAt path at ≡ step s next → (l : List Defined) → left path next ≡ l
       → Scoped (Turned PathError)
   unfolding inScope
-  stray-by s next n c e [] h = record { is = λ t p q. rw (left-step path at decodes s next e, n, h); inside = tt }
-  stray-by s next n c e (u ∷ l) h = record { is = λ t p q. rw (left-step path at decodes s next e, n, h, c); inside = tt }
+  stray-by s next n c e [] h = record { is = λ o. rw (left-step path at decodes s next e, n, h); inside = tt }
+  stray-by s next n c e (u ∷ l) h = record { is = λ o. rw (left-step path at decodes s next e, n, h, c); inside = tt }
 
   stray : (s : Defined) (next : ℕ) → nameOf s ≡ none → classOf s ≡ none → segmentAt path at ≡ step s next → Scoped (Turned PathError)
   stray s next n c e = stray-by s next n c e (left path next) refl
@@ -97,16 +98,16 @@ module _ (tags : List Row) (tagNames : List ℕ) (f : Flags) (path : List ℕ) (
     -- behind a class stands no instance
     no-instance : (s : Defined) (n : ℕ) → instanceOf s ≡ none → segmentAt path next ≡ step s n → Scoped (Turned PathError)
     unfolding inScope
-    no-instance s n z g = record { is = λ t p q. rw (left-step path at decodes (class c) next e, left-step path next rest-decodes s n g, z); inside = tt }
+    no-instance s n z g = record { is = λ o. rw (left-step path at decodes (class c) next e, left-step path next rest-decodes s n g, z); inside = tt }
 
     instance-by : (id n : ℕ) → segmentAt path next ≡ step (instance id) n → eqb c 0x6B ≡ true → takesInstances f ≡ true → (o : Option ℕ)
         → idIn tags scope id ≡ o
         → Scoped (startAt PathUnknown o n)
     unfolding inScope
     instance-by id n g y w none h =
-        record { is = λ t p q. rw (left-step path at decodes (class c) next e, left-step path next rest-decodes (instance id) n g, y, w, p, h); inside = tt }
+        record { is = λ o. rw (left-step path at decodes (class c) next e, left-step path next rest-decodes (instance id) n g, y, w, h); inside = tt }
     instance-by id n g y w (some i) h = record {
-      is = λ t p q. rw (left-step path at decodes (class c) next e, left-step path next rest-decodes (instance id) n g, y, w, p, h);
+      is = λ o. rw (left-step path at decodes (class c) next e, left-step path next rest-decodes (instance id) n g, y, w, h);
       inside = (id-inside tags scope id i h, segments-rest path next (instance id) n g rest-decodes);
     }
 
@@ -116,11 +117,11 @@ module _ (tags : List Row) (tagNames : List ℕ) (f : Flags) (path : List ℕ) (
         by-test (eqb c 0x6B)
         (λ y. by-test (takesInstances f) (λ w. rw (y, w) (instance-by id n g y w (idIn tags scope id) refl))
         (λ w. rw (y, w) (record {
-          is = λ t p q. rw (left-step path at decodes (class c) next e, left-step path next rest-decodes (instance id) n g, y, w);
+          is = λ o. rw (left-step path at decodes (class c) next e, left-step path next rest-decodes (instance id) n g, y, w);
           inside = tt;
         })))
         (λ y. rw y (record {
-          is = λ t p q. rw (left-step path at decodes (class c) next e, left-step path next rest-decodes (instance id) n g, y);
+          is = λ o. rw (left-step path at decodes (class c) next e, left-step path next rest-decodes (instance id) n g, y);
           inside =
               tt;
         }))
@@ -133,7 +134,7 @@ module _ (tags : List Row) (tagNames : List ℕ) (f : Flags) (path : List ℕ) (
     class-by (Element x n) g = no-instance (element x) n refl g
     class-by (Attribute x n) g = no-instance (attribute x) n refl g
     class-by (Symbol x m n) g = no-instance (symbol (part path x m)) n refl g
-    class-by Invalid g = record { is = λ t p q. rw (left-step path at decodes (class c) next e, left-cut path next rest-decodes g); inside = tt }
+    class-by Invalid g = record { is = λ o. rw (left-step path at decodes (class c) next e, left-cut path next rest-decodes g); inside = tt }
 
   module _ (s : Segment) (found : Decoded path at s) where
     pub scope-name : (start n next : ℕ) (name : List ℕ) (r : Start) → s ≡ Symbol start n next → name ≡ part path start n
@@ -159,7 +160,7 @@ module _ (tags : List Row) (tagNames : List ℕ) (f : Flags) (path : List ℕ) (
 
     pub scope-none : s ≡ Invalid → Scoped (Turned PathError)
     unfolding inScope
-    scope-none g = record { is = λ t p q. rw (left-cut path at decodes (found-at path at s found _ g)); inside = tt }
+    scope-none g = record { is = λ o. rw (left-cut path at decodes (found-at path at s found _ g)); inside = tt }
 
 pub ruleset scopes = (scope-name, scope-class, scope-port, scope-instance, scope-element, scope-attribute, scope-none)
 
@@ -177,10 +178,10 @@ module _ (programs : List Row) (names name : List ℕ) (v : Found) (is : v ≡ f
     program-found k scope r e g b =
         let z : scope ≡ suc k = g ∙ add-one k in
         rw (found-some (programIn programs names name) v k is e)
-        (record { is = λ t p q. b .is t p q ∙ ap (λ (n : ℕ). inScope t f n (left path at)) z; inside = b .inside })
+        (record { is = λ o. b .is o ∙ ap (λ (n : ℕ). inScope (forTag tags tagNames o) f n (left path at)) z; inside = b .inside })
 
     pub program-none : v ≡ found.Nothing → Programmed (Turned PathError)
-    program-none e = rw (found-none (programIn programs names name) v is e) (record { is = λ t p q. refl; inside = tt })
+    program-none e = rw (found-none (programIn programs names name) v is e) (record { is = λ o. refl; inside = tt })
 
 pub ruleset programs-laws = (program-found, program-none)
 
@@ -271,14 +272,18 @@ module _ (programs : List Row) (names : List ℕ) (tags : List Row) (tagNames : 
   pub whole-program : (x : Prefix) (start n next : ℕ) (name : List ℕ) → Prefixed path x → x ≡ Program start n next → name ≡ part path start n
       → Begins tags tagNames f path (inProgramOf (programIn programs names name)) next r → BeginsPath programs names tags tagNames f path r
   whole-program x start n next name a z e b = record {
-    is = λ t u v p q. let h : ProgramFirst path start n next = subst (Prefixed path) z a in b .is t p q ∙ (rw (← u, ← v, e) (h .is t f));
+    is = λ o. let t = forStart programs tags names tagNames o in
+        let h : ProgramFirst path start n next = subst (Prefixed path) z a in
+        b .is t ∙ (rw e (h .is t f));
     inside = b .inside;
   }
 
   pub whole-plain : (x : Prefix) → Prefixed path x → x ≡ Nothing → Begins tags tagNames f path (inScopeOf 0) 0 r
       → BeginsPath programs names tags tagNames f path r
   whole-plain x a z b = record {
-    is = λ t u v p q. let h : Prefixed path Nothing = subst (Prefixed path) z a in b .is t p q ∙ h t f;
+    is = λ o. let t = forStart programs tags names tagNames o in
+        let h : Prefixed path Nothing = subst (Prefixed path) z a in
+        b .is t ∙ h t f;
     inside = b .inside;
   }
 

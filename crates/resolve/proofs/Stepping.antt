@@ -24,7 +24,7 @@ use Rattle.path.specs.Paths.{Decoded}
 use Rattle.path.specs.declared.Segment.{Segment}
 use Rattle.path.specs.declared.Segment.the-variants.{Port, Class, Instance, Element, Attribute, Symbol, Invalid}
 use Rattle.path.proofs.Segments.{segments-cut, segments-rest}
-use Rattle.model.specs.Tables.{tablesOf}
+use Rattle.model.specs.Tables.{forWalk}
 use Rattle.cip.specs.declared.Status.{Status}
 use Rattle.resolve.specs.declared.places.Place.{Place}
 use Rattle.resolve.specs.declared.places.Way.{Way}
@@ -53,12 +53,13 @@ programs-few t memory ok = leb-true (length (t .programs)) 16 (among (leb (lengt
 module _ (structures members : List Row) (names : List ℕ) (g : Place) (w : Standing structures members names (placeOf g)) where
   pub standing-bounded : Bounded structures g
   standing-bounded =
-      let t = tablesOf structures members (w .programs) (w .tags) (w .others) names (w .tagNames) (w .templates) in
+      let v = w .valid-in in
+      let t = forWalk structures members names (v .rest) in
       let s = w .stands in
       record {
-        some-bytes = element-some t (w .memory) (w .ok) (g .ty) (s .type);
+        some-bytes = element-some t (v .memory) (v .ok) (g .ty) (s .type);
         reach = s .reach;
-        within = omega (arith, s .before-end, tag-in-memory t (w .memory) (w .ok) (g .tag) (s .tag), memory-small t (w .memory) (w .ok));
+        within = omega (arith, s .before-end, tag-in-memory t (v .memory) (v .ok) (g .tag) (s .tag), memory-small t (v .memory) (v .ok));
       }
 
   pub standing-start : g .start ≤ 65536
@@ -70,9 +71,9 @@ then-same : (r : Resolved) (a b : Target → Resolved) → ((g : Target) → a g
 then-same (found g) a b h = h g
 then-same (turned s) a b h = refl
 
-module _ (structures members programs tags others : List Row) (names tagNames templates : List ℕ) (f : Flags) where
+module _ (structures members : List Row) (names : List ℕ) (o : Tables) (f : Flags) where
   abbrev whole : Tables
-  whole = tablesOf structures members programs tags others names tagNames templates
+  whole = forWalk structures members names o
 
   move-bare : (m : Move) (g : Target) → moveTo whole f m g ≡ moveTo (onWalk structures members names) f m g
   unfolding index elementsFrom
@@ -104,17 +105,11 @@ module _ (structures members : List Row) (names : List ℕ) (f : Flags) (path : 
     decodes = d;
     shorter = h;
     standing = record {
-      programs = w .programs;
-      tags = w .tags;
-      others = w .others;
-      tagNames = w .tagNames;
-      templates = w .templates;
-      memory = w .memory;
-      ok = w .ok;
+      valid-in = w .valid-in;
       stands =
-          let t = tablesOf structures members (w .programs) (w .tags) (w .others) names (w .tagNames) (w .templates) in
-          rw (move-bare structures members (w .programs) (w .tags) (w .others) names (w .tagNames) (w .templates) f m (placeOf g), ← e)
-          at (move-stands t f (w .memory) (w .ok) m (placeOf g) (w .stands));
+          let v = w .valid-in in
+          rw (move-bare structures members names (v .rest) f m (placeOf g), ← e)
+          at (move-stands (forWalk structures members names (v .rest)) f (v .memory) (v .ok) m (placeOf g) (w .stands));
     };
   }
   by-move m next ms d h w (Turned s) p e = rw (ms, ← e)

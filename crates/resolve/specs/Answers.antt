@@ -1,6 +1,6 @@
 -- What a resolved path means in the definition's terms.
 use mathlib.Core.Path.{_≡_}
-use mathlib.Core.Bool.{Bool, true}
+use mathlib.Core.Bool.{Bool}
 use mathlib.Core.List.{List}
 use mathlib.Core.Option.{some}
 use Prim.Native.Nat.{ℕ}
@@ -10,23 +10,15 @@ use Rattle.definition.specs.Segment.{Segment, segments}
 use Rattle.definition.specs.Tables.{Flags, Row, noBit, isAoi, membersIn, tagOffset, tagType, tagElements, tagAccess}
 use Rattle.definition.specs.Types.{isStructure, structureIn, sizeIn}
 use Rattle.definition.specs.Lookup.{marked, localIn}
-use Rattle.definition.specs.Valid.{valid}
 use Rattle.definition.specs.Resolve.{Target as Defined, Resolved as DefinedResolved, found, turned, indexLengths, resolve}
 use Rattle.definition.specs.Access.{tagTarget}
 use Rattle.cip.specs.Statuses.{statusOf}
-use Rattle.model.specs.Tables.{tablesOf, targetOf}
+use Rattle.model.specs.Tables.{Whatever, forPath, targetOf}
 use Rattle.model.specs.declared.Target.{Target}
 use Rattle.resolve.specs.declared.places.Place.{Place}
 use Rattle.resolve.specs.declared.Resolved.{Resolved}
 use Rattle.resolve.specs.declared.Resolved.the-variants.{Found, Turned}
 use Rattle.resolve.specs.Places.{placeOf, openLengths}
-
--- the tables are valid, with some other symbols, templates and tag memory
-pub record Tabled (structures members programs tags : List Row) (names tagNames : List ℕ) : Type 0 where
-  pub others : List Row
-  pub templates : List ℕ
-  pub memory : ℕ
-  pub ok : valid (tablesOf structures members programs tags others names tagNames templates) memory ≡ true
 
 -- a target, with some lengths of an array that is still open, and its type's size
 pub record FoundAs (structures : List Row) (d : DefinedResolved) (g : Target) : Type 0 where
@@ -38,16 +30,16 @@ abbrev pub Answers : (structures : List Row) → DefinedResolved → Resolved �
 Answers structures d (Found g) = FoundAs structures d g
 Answers structures d (Turned s) = d ≡ turned (statusOf s)
 
--- with these tables, whatever the others are, the path's segments come to this
+-- the path's segments come to this
 pub record Resolves (structures members programs tags : List Row) (names tagNames : List ℕ) (f : Flags) (path : List ℕ) (r : Resolved) : Type 0 where
-  pub is : (others : List Row) (templates : List ℕ) (l : List Segment) → segments path ≡ some l
-      → Answers structures (resolve (tablesOf structures members programs tags others names tagNames templates) f l) r
+  pub is : Whatever (forPath structures members programs tags names tagNames)
+      (λ t. (l : List Segment) → segments path ≡ some l → Answers structures (resolve t f l) r)
 
 -- the same for a service that writes or does not
 pub record Targets (structures members programs tags : List Row) (names tagNames : List ℕ) (f : Flags) (writes : Bool) (path : List ℕ)
     (r : Resolved) : Type 0 where
-  pub is : (others : List Row) (templates : List ℕ) (l : List Segment) → segments path ≡ some l
-      → Answers structures (tagTarget (tablesOf structures members programs tags others names tagNames templates) f writes l) r
+  pub is : Whatever (forPath structures members programs tags names tagNames)
+      (λ t. (l : List Segment) → segments path ≡ some l → Answers structures (tagTarget t f writes l) r)
 
 -- a place as a target
 pub record Aims (structures : List Row) (g : Place) (r : Target) : Type 0 where

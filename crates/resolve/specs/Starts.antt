@@ -16,6 +16,7 @@ use Rattle.cip.specs.Statuses.{statusOf}
 use Rattle.cip.specs.declared.Status.{Status}
 use Rattle.cip.specs.declared.Status.the-variants.{PathError, PathUnknown}
 use Rattle.path.specs.declared.Segment.{Segment}
+use Rattle.model.specs.Tables.{Whatever, forStart, forTag}
 use Rattle.path.specs.declared.Segment.the-variants.{Port, Class, Instance, Element, Attribute, Symbol, Invalid}
 use Rattle.resolve.specs.declared.start.Start.{Start}
 use Rattle.resolve.specs.declared.start.Start.the-variants.{At, Turned}
@@ -56,14 +57,13 @@ abbrev pub fromOrigin : Tables → Flags → Origin → List Defined → Resolve
 fromOrigin t f (inScopeOf scope) l = inScope t f scope l
 fromOrigin t f (inProgramOf o) l = inProgram t f o l
 
--- whatever the other tables are, the path from a position on comes to this
+-- the path from a position on comes to this
 pub record Begins (tags : List Row) (tagNames : List ℕ) (f : Flags) (path : List ℕ) (o : Origin) (at : ℕ) (r : Start) : Type 0 where
-  pub is : (t : Tables) → t .tags ≡ tags → t .tagNames ≡ tagNames → afterwards t f path r ≡ fromOrigin t f o (left path at)
+  pub is : Whatever (forTag tags tagNames) (λ t. afterwards t f path r ≡ fromOrigin t f o (left path at))
   pub inside : StartInside tags path r
 
 pub record BeginsPath (programs : List Row) (names : List ℕ) (tags : List Row) (tagNames : List ℕ) (f : Flags) (path : List ℕ) (r : Start) : Type 0 where
-  pub is : (t : Tables) → t .programs ≡ programs → t .names ≡ names → t .tags ≡ tags → t .tagNames ≡ tagNames
-      → afterwards t f path r ≡ resolve t f (left path 0)
+  pub is : Whatever (forStart programs tags names tagNames) (λ t. afterwards t f path r ≡ resolve t f (left path 0))
   pub inside : StartInside tags path r
 
 -- a program's name, without its prefix, stands in the path

@@ -7,11 +7,10 @@ use lib.ListN.{length}
 use Rattle.laws.specs.Pick.{isSome}
 use Rattle.definition.specs.Segment.{segmentsFrom}
 use Rattle.definition.specs.Tables.{Flags, Row}
-use Rattle.definition.specs.Valid.{valid}
 use Rattle.definition.specs.Resolve.{Target, Resolved, turned, moves, walk}
 use Rattle.definition.proofs.Inside.{Stands}
 use Rattle.cip.specs.Statuses.{statusOf}
-use Rattle.model.specs.Tables.{tablesOf}
+use Rattle.model.specs.Tables.{SomeValid, forWalk}
 use Rattle.resolve.specs.declared.places.Way.{Way}
 use Rattle.resolve.specs.declared.places.Way.the-variants.{Made, Turned}
 use Rattle.resolve.specs.declared.moves.Stepped.{Stepped}
@@ -20,14 +19,8 @@ use Rattle.resolve.specs.Places.{placeOf, onWalk}
 
 -- in some valid tables
 pub record Standing (structures members : List Row) (names : List ℕ) (g : Target) : Type 0 where
-  pub programs : List Row
-  pub tags : List Row
-  pub others : List Row
-  pub tagNames : List ℕ
-  pub templates : List ℕ
-  pub memory : ℕ
-  pub ok : valid (tablesOf structures members programs tags others names tagNames templates) memory ≡ true
-  pub stands : Stands (tablesOf structures members programs tags others names tagNames templates) g
+  pub valid-in : SomeValid (forWalk structures members names)
+  pub stands : Stands (forWalk structures members names (valid-in .rest)) g
 
 abbrev pub walked : (structures members : List Row) (names : List ℕ) → Flags → (path : List ℕ) (at : ℕ) → Target → Resolved
 walked structures members names f path at g = walk (onWalk structures members names) f (moves (left path at)) g

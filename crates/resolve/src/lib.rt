@@ -24,9 +24,9 @@ ghost use Prim.Native.Nat.{_<_};
 ghost use Rattle.laws.specs.Pick.{isSome};
 ghost use Rattle.definition.specs.Segment.{segments};
 ghost use Rattle.definition.specs.Tables.{tagElements};
-ghost use Rattle.model.specs.Tables.{flagsOf};
+ghost use Rattle.model.specs.Tables.{SomeValid, forPath, flagsOf};
 ghost use Rattle.resolve.specs.Places.{placeOf, movedOf};
-ghost use Rattle.resolve.specs.Answers.{Tabled, Answers, Resolves, Targets, Aims, wholeRow, closedTo, deniedTo, refusedTo};
+ghost use Rattle.resolve.specs.Answers.{Answers, Resolves, Targets, Aims, wholeRow, closedTo, deniedTo, refusedTo};
 
 /// A tag path's target, or the status that turns it away.
 pub enum Resolved {
@@ -92,8 +92,8 @@ pub fn resolve(
     flags: Flags,
     path: &[u8],
 ) -> Resolved
-    requires { ⌜ (isSome (segments (now path)) ≡ true) × Tabled (now structures) (now members) (now programs) (now tags) (now names)
-        (now «tag_names») ⌝ }
+    requires { ⌜ (isSome (segments (now path)) ≡ true)
+        × SomeValid (forPath (now structures) (now members) (now programs) (now tags) (now names) (now «tag_names»)) ⌝ }
     ensures { λ r. ⌜ Resolves (now (structures .entry)) (now (members .entry)) (now (programs .entry)) (now (tags .entry)) (now (names .entry))
         (now («tag_names» .entry)) (flagsOf flags) (now (path .entry)) r ⌝ }
 {
@@ -169,8 +169,8 @@ pub fn tag_target(
     writes: bool,
     path: &[u8],
 ) -> Resolved
-    requires { ⌜ (isSome (segments (now path)) ≡ true) × Tabled (now structures) (now members) (now programs) (now tags) (now names)
-        (now «tag_names») ⌝ }
+    requires { ⌜ (isSome (segments (now path)) ≡ true)
+        × SomeValid (forPath (now structures) (now members) (now programs) (now tags) (now names) (now «tag_names»)) ⌝ }
     ensures { λ r. ⌜ Targets (now (structures .entry)) (now (members .entry)) (now (programs .entry)) (now (tags .entry)) (now (names .entry))
         (now («tag_names» .entry)) (flagsOf flags) writes (now (path .entry)) r ⌝ }
 {

@@ -14,14 +14,13 @@ use Rattle.laws.proofs.Chain.{pick-map}
 use Rattle.definition.specs.Reply.{Answer, Status, answered, fail, notSupported, pathUnknown}
 use Rattle.definition.specs.Segment.{Segment, class, instance, segments}
 use Rattle.definition.specs.Request.{objectOf, isTagPath}
-use Rattle.definition.specs.Tables.{Tables, Flags, Row}
+use Rattle.definition.specs.Tables.{Tables, Flags}
 use Rattle.definition.specs.Lookup.{templateIn}
 use Rattle.definition.specs.Valid.{valid}
 use Rattle.definition.specs.Attributes.{structureAttributes, symbolAttributes}
 use Rattle.definition.specs.Answer.{capped, otherwise, isTagService, tagService, byService, byObject, readTemplate, plain}
 use Rattle.cip.specs.Writes.{Laid}
 use Rattle.path.specs.Paths.{tagPathFrom, ObjectAt}
-use Rattle.model.specs.Tables.{tablesOf}
 use Rattle.path.specs.declared.Object.{Object}
 use Rattle.path.specs.declared.Object.the-variants.{Of, Nothing}
 use Rattle.services.specs.declared.Own.{Own}
@@ -36,20 +35,16 @@ object-is : (path : List ℕ) (o : Object) (l : List Segment) → ObjectAt path 
 object-is path (Of c i next) l h s = let e : l ≡ class c ∷ (instance i ∷ h .rest) = cc (s, h .is) in rw e
 object-is path Nothing l h s = h l s
 
-module _ (structures members programs tags others : List Row) (names tagNames templates : List ℕ) (f : Flags) (memory : List ℕ) (service : ℕ)
-    (path body : List ℕ) (limit : ℕ)
-    (old : List ℕ) (r : ℕ) (new : List ℕ) where
-  abbrev tables : Tables
-  tables = tablesOf structures members programs tags others names tagNames templates
-
+module _ (tables : Tables) (f : Flags) (memory : List ℕ) (service : ℕ) (path body : List ℕ) (limit : ℕ) (old : List ℕ) (r : ℕ) (new : List ℕ) where
   abbrev By : (after : List ℕ) → Type 0
   By after = OnPath path limit (λ l. byService tables f memory service l body limit) old r new after
 
-  pub by-page : service ≡ 0x55 → valid tables (length memory) ≡ true → Lists structures programs tags others names tagNames service path body limit old r new
+  pub by-page : service ≡ 0x55 → valid tables (length memory) ≡ true
+      → Lists (tables .structures) (tables .programs) (tables .tags) (tables .others) (tables .names) (tables .tagNames) service path body limit old r new
       → By memory
   unfolding byService
   by-page e ok h = record {
-    is = λ l s. rw (eq-eqb service 0x55 e) (laid-answers limit _ old r new memory (h .is members templates (length memory) ok l s));
+    is = λ l s. rw (eq-eqb service 0x55 e) (laid-answers limit _ old r new memory (h .is tables (length memory) ok l s));
   }
 
   module _ (no-page : service ≢ 0x55) (b : Bool) (tagged : b ≡ both (isTagService service) (tagPathFrom path 0)) where
@@ -71,8 +66,8 @@ module _ (structures members programs tags others : List Row) (names tagNames te
 
   abbrev byOwn : (l : List Segment) → Own → Answer
   byOwn l (own.SymbolList i) = answered (capped service limit (symbolAttributes tables service i body)) memory
-  byOwn l (own.StructureList i) = answered (capped service limit (structureAttributes structures service i body)) memory
-  byOwn l (own.Template i) = answered (readTemplate tables service (templateIn structures i) body limit) memory
+  byOwn l (own.StructureList i) = answered (capped service limit (structureAttributes (tables .structures) service i body)) memory
+  byOwn l (own.Template i) = answered (readTemplate tables service (templateIn (tables .structures) i) body limit) memory
   byOwn l own.Nothing = byService tables f memory service l body limit
 
   own-is : (o : Object) (l : List Segment) → byObject tables f memory service (objectIs o) l body limit ≡ byOwn l (ownOf o service (f .micro800))
@@ -96,11 +91,12 @@ module _ (structures members programs tags others : List Row) (names tagNames te
     pub plain-symbols : (i : ℕ) → w ≡ own.SymbolList i → Laid limit (capped service limit (symbolAttributes tables service i body)) old r new → Plain memory
     plain-symbols i e h = plain-own memory (λ l s. rw e (laid-answers limit _ old r new memory h))
 
-    pub plain-structures : (i : ℕ) → w ≡ own.StructureList i → Laid limit (capped service limit (structureAttributes structures service i body)) old r new
-        → Plain memory
+    pub plain-structures : (i : ℕ) → w ≡ own.StructureList i
+        → Laid limit (capped service limit (structureAttributes (tables .structures) service i body)) old r new → Plain memory
     plain-structures i e h = plain-own memory (λ l s. rw e (laid-answers limit _ old r new memory h))
 
-    pub plain-template : (i : ℕ) → w ≡ own.Template i → Laid limit (readTemplate tables service (templateIn structures i) body limit) old r new → Plain memory
+    pub plain-template : (i : ℕ) → w ≡ own.Template i
+        → Laid limit (readTemplate tables service (templateIn (tables .structures) i) body limit) old r new → Plain memory
     plain-template i e h = plain-own memory (λ l s. rw e (laid-answers limit _ old r new memory h))
 
     pub plain-by : w ≡ own.Nothing → (after : List ℕ) → By after → Plain after

@@ -20,7 +20,7 @@ use Rattle.definition.specs.Answer.{isRead, isWrite, tagService}
 use Rattle.cip.specs.Statuses.{statusOf}
 use Rattle.cip.specs.Writes.{Laid}
 use Rattle.cip.specs.declared.Status.{Status}
-use Rattle.model.specs.Tables.{tablesOf, targetOf, Aimed}
+use Rattle.model.specs.Tables.{targetOf, Aimed}
 use Rattle.model.specs.declared.Target.{Target}
 use Rattle.resolve.specs.Answers.{Targets}
 use Rattle.resolve.specs.declared.Resolved.{Resolved}
@@ -62,14 +62,12 @@ pub ruleset serving = (serve-read, serve-masked, serve-written)
 
 -- ---- on a path
 
-module _ (structures members programs tags others : List Row) (names tagNames templates : List ℕ) (f : Flags) (memory : List ℕ) (service : ℕ)
-    (path body : List ℕ) (limit : ℕ)
-    (writes : Bool) (is : writes ≡ isWrite service) (resolved : Resolved)
-    (target : Targets structures members programs tags names tagNames f writes path resolved)
-    (old : List ℕ) (r : ℕ) (new after : List ℕ) where
-  abbrev tables : Tables
-  tables = tablesOf structures members programs tags others names tagNames templates
+-- what a path comes to in these tables
+abbrev Aims : (tables : Tables) → Flags → (writes : Bool) (path : List ℕ) → Resolved → Type 0
+Aims t = Targets (t .structures) (t .members) (t .programs) (t .tags) (t .names) (t .tagNames)
 
+module _ (tables : Tables) (f : Flags) (memory : List ℕ) (service : ℕ) (path body : List ℕ) (limit : ℕ) (writes : Bool) (is : writes ≡ isWrite service)
+    (resolved : Resolved) (target : Aims tables f writes path resolved) (old : List ℕ) (r : ℕ) (new after : List ℕ) where
   abbrev Tagged : Type 0
   Tagged = OnPath path limit (λ l. tagService tables f memory service l body limit) old r new after
 
@@ -77,30 +75,28 @@ module _ (structures members programs tags others : List Row) (names tagNames te
   unfolding tagService
   tag-turned status e k h = record {
     is = λ l s.
-        let t : tagTarget tables f writes l ≡ turned (statusOf status) = rw e at (target .is others templates l s) in
+        let t : tagTarget tables f writes l ≡ turned (statusOf status) = rw e at (target .is tables l s) in
         rw (← is, t, k) (laid-answers limit _ old r new memory h);
   }
 
-  pub tag-found : (g : Target) → resolved ≡ Found g → Answers limit (onFound structures memory service (targetOf g []) body limit) old r new after → Tagged
+  pub tag-found : (g : Target) → resolved ≡ Found g
+      → Answers limit (onFound (tables .structures) memory service (targetOf g []) body limit) old r new after → Tagged
   unfolding tagService
   tag-found g e h = record {
     is = λ l s.
-        let t = rw e at (target .is others templates l s) in
+        let t = rw e at (target .is tables l s) in
         let n = t .lengths in
         rw (
           ← is,
           t .is,
-          read-any-lengths structures memory g n body service limit,
-          write-any-lengths structures memory g n body service,
-          masked-any-lengths structures memory g n body,
+          read-any-lengths (tables .structures) memory g n body service limit,
+          write-any-lengths (tables .structures) memory g n body service,
+          masked-any-lengths (tables .structures) memory g n body,
         )
         h;
   }
 
-module _ (structures members programs tags others : List Row) (names tagNames templates path : List ℕ) (f : Flags) (writes : Bool) (memory : ℕ)
-    (ok : valid (tablesOf structures members programs tags others names tagNames templates) memory ≡ true) (decodes : isSome (segments path) ≡ true) where
-  pub tag-aimed : (g : Target) (resolved : Resolved) → resolved ≡ Found g → Targets structures members programs tags names tagNames f writes path resolved
-      → Aimed structures memory g
-  tag-aimed g resolved e target =
-      found-aimed structures members programs tags others names tagNames templates path f writes g memory ok decodes
-      (subst (Targets structures members programs tags names tagNames f writes path) e target)
+module _ (tables : Tables) (path : List ℕ) (f : Flags) (writes : Bool) (memory : ℕ) (ok : valid tables memory ≡ true)
+    (decodes : isSome (segments path) ≡ true) where
+  pub tag-aimed : (g : Target) (resolved : Resolved) → resolved ≡ Found g → Aims tables f writes path resolved → Aimed (tables .structures) memory g
+  tag-aimed g resolved e target = found-aimed tables path f writes g memory ok decodes (subst (Aims tables f writes path) e target)

@@ -4,11 +4,10 @@ use mathlib.Core.Path.{_≡_, refl, sym, _∙_}
 use mathlib.Core.Logic.{_≢_}
 use mathlib.Core.Bool.{Bool, true, false, not}
 use mathlib.Core.List.{List, [], _∷_}
-use Prim.Native.Nat.{ℕ, zero, suc, _+_, _*_, _-_, _%_, _<_, _≤_}
+use Prim.Native.Nat.{ℕ, suc, _+_, _*_, _-_, _%_, _<_, _≤_}
 use native.Mathlib.Nat.{add-sub-cancel-left}
 use native.Mathlib.Omega.{arith}
 use lib.Dec.{leb, eqb}
-use native.Mathlib.Numerals.{add-one}
 use lib.ListN.{getD, length, set, drop}
 use lib.Seq.{getD-set-same, getD-set-other}
 use borrow.Author.Tests.{lt-ltb, le-ltb, leb-true, eqb-true, eqb-false}
@@ -16,7 +15,7 @@ use Rattle.laws.specs.Pick.{both, either}
 use Rattle.laws.specs.Fold.{run}
 use Rattle.laws.specs.Tests.{every, pairs}
 use Rattle.laws.specs.Zip.{agree}
-use Rattle.laws.proofs.Chain.{by-test, clash, both-on}
+use Rattle.laws.proofs.Chain.{by-test, clash}
 use Rattle.laws.proofs.Loops.{not-on}
 use Rattle.laws.proofs.Tests.{both-true, either-true, both-none, every-by, pairs-by, every-broken, pairs-broken}
 use Rattle.definition.specs.Names.{sameName, sameByte, lower}

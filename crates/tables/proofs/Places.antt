@@ -6,13 +6,11 @@ use mathlib.Core.Bool.{Bool}
 use mathlib.Core.List.{List, [], _∷_, _++_, map}
 use Prim.Native.Nat.{ℕ, zero, suc, _+_, _-_, _<_, _≤_, min}
 use native.Mathlib.Omega.{arith}
-use native.Mathlib.Nat.{add-sub-cancel-left}
 use lib.Dec.{ltb, eqb}
-use lib.ListN.{length, getD, length-map, List·getD-append, List·getD-map}
+use lib.ListN.{length, getD, List·getD-append, List·getD-map}
 use lib.Seq.{getD-append-add}
 use borrow.Author.Tests.{eq-eqb, ne-eqb}
 use Rattle.laws.specs.Pick.{pick}
-use Rattle.laws.proofs.Chain.{clash}
 use Rattle.definition.specs.Tables.{Tables, Row, firstMember, memberCount, structureAt}
 use Rattle.definition.specs.Breach.{Breach, Test, RowRule, noRule, noTest, each, tell, tests, testAt, counts, structureRules, memberRules, programRules, tagRules, otherRules, clashes}
 use Rattle.model.specs.Tables.{tablesOf}

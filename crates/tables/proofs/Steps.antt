@@ -3,12 +3,12 @@
 use mathlib.Core.Path.{_≡_, refl, sym, _∙_, ap}
 use mathlib.Core.Bool.{Bool, true, false}
 use mathlib.Core.Option.{Option, none, some}
-use Prim.Native.Nat.{ℕ, _+_, _-_, _<_, _≤_}
+use Prim.Native.Nat.{ℕ, _+_, _-_, _<_}
 use native.Mathlib.Omega.{arith}
 use Rattle.laws.specs.Pick.{isSome}
 use Rattle.laws.proofs.Chain.{clash}
 use Rattle.laws.specs.First.{firstOf}
-use Rattle.laws.proofs.First.{first-next, first-hit, first-end}
+use Rattle.laws.proofs.First.{first-next, first-hit}
 use Rattle.definition.specs.Tables.{Tables}
 use Rattle.tables.specs.Rules.{TellsAt}
 use Rattle.definition.specs.Breach.{Breach, Test, toldOf, rowBreach, testBreach, testAt, tests, counts, structureRules, memberRules, programRules, tagRules, otherRules, clashes, breach}

@@ -2,7 +2,6 @@
 -- Assumes nothing.
 use mathlib.Core.Path.{_≡_, refl, sym, ap, _∙_}
 use mathlib.Core.Logic.{_≢_}
-use mathlib.Core.Bool.{true}
 use mathlib.Core.List.{List, [], _∷_, _++_, append-assoc}
 use mathlib.Core.Option.{some}
 use Prim.Native.Nat.{ℕ, zero, suc, _+_, _-_, _*_, _≤_, _<_}
@@ -21,16 +20,13 @@ use Rattle.laws.proofs.Sorted.{All-from}
 use Rattle.laws.proofs.Until.{until-done, until-more}
 use Rattle.definition.specs.Bytes.{numbers}
 use Rattle.definition.specs.Reply.{reply, room}
-use Rattle.definition.specs.Tables.{Tables, Flags, Row}
-use Rattle.definition.specs.Valid.{valid}
+use Rattle.definition.specs.Tables.{Tables, Flags}
 use Rattle.definition.specs.Page.{Entry, idOf, bytesOf, fitting, pageReply}
 use Rattle.definition.specs.Symbols.{listing, due}
 use Rattle.definition.specs.Answer.{answer}
 use Rattle.definition.proofs.Listing.{listing-some}
 use Rattle.definition.proofs.Replies.{proper-answer}
 use Rattle.cip.specs.Writes.{Written}
-use Rattle.model.specs.Tables.{tablesOf}
-use Rattle.listing.specs.Entries.{SomeValid}
 use Rattle.continued.proofs.Entries.{bytes-append, bytes-some, fitting-le, fitting-some, fits-first}
 use Rattle.services.specs.Answers.{Answers}
 use Rattle.whole.specs.declared.joins.Turn.{Turn}
@@ -308,12 +304,11 @@ pub turn-askable : {t : Tables} {m program attributes : List ℕ} {limit buffer 
     → Askable t m program attributes limit buffer → memory ≡ m → b ≡ buffer → Askable t memory program attributes limit b
 turn-askable memory b a same e = rw (same, e) a
 
+-- the tables in which it may be asked
+abbrev pub tables-asked : {t : Tables} {m program attributes : List ℕ} {limit buffer : ℕ} → Askable t m program attributes limit buffer → Tables
+tables-asked {t} a = t
+
 -- a request's list of attributes is short, so its numbers are few
 pub few-numbers : {t : Tables} {m program attributes : List ℕ} {limit buffer scope n : ℕ}
     → Askable t m program attributes limit buffer → Granted t program attributes scope n → n ≤ 65535
 few-numbers {program} {attributes} a g = omega (arith, g .list-fits, askable-short program attributes (a .askable) .1)
-
-pub some-tables : (structures members programs tags others : List Row) (names tagNames templates : List ℕ) (memory : ℕ)
-    → valid (tablesOf structures members programs tags others names tagNames templates) memory ≡ true → SomeValid structures tags others names tagNames
-some-tables structures members programs tags others names tagNames templates memory v =
-    record { members = members; programs = programs; templates = templates; memory = memory; ok = v }

@@ -125,13 +125,13 @@ module _ (structures members programs tags others : List Row) (names tagNames te
   unfolding sizedOf
   size-turned s e =
       size-target tables f memory path elements c checked n decodes b tests Nothing tag
-      (λ l d. let a : Answers structures (tagTarget tables f false l) (Turned s) = subst (Answers structures _) e (resolved .is others templates l d) in
+      (λ l d. let a : Answers structures (tagTarget tables f false l) (Turned s) = subst (Answers structures _) e (resolved .is tables l d) in
       rw a refl)
 
   module _ (g : Target) (e : r ≡ Found g) (ok : valid tables (length memory) ≡ true) where
     pub size-aimed : Aimed structures (length memory) g
     size-aimed =
-        found-aimed structures members programs tags others names tagNames templates path f false g (length memory) ok
+        found-aimed tables path f false g (length memory) ok
         (check-some path c n checked decodes) (subst (Targets structures members programs tags names tagNames f false path) e resolved)
 
     pub size-found : (count : ℕ) (v : Size) → count ≡ elements → v ≡ sizedBy g count (grantOf (g .bit) (g .count) count)
@@ -139,5 +139,5 @@ module _ (structures members programs tags others : List Row) (names tagNames te
     unfolding ask selection
     size-found count v k sized =
         size-target tables f memory path elements c checked n decodes b tests v tag
-        (λ l d. let a : FoundAs structures (tagTarget tables f false l) g = subst (Answers structures _) e (resolved .is others templates l d) in
+        (λ l d. let a : FoundAs structures (tagTarget tables f false l) g = subst (Answers structures _) e (resolved .is tables l d) in
         rw (a .is) (sized ∙ rw k (target-size structures memory g elements size-aimed)))

@@ -24,7 +24,8 @@ use Rattle.model.specs.declared.least.Least.the-variants.{Of, Empty}
 use Rattle.model.specs.declared.least.Next.{Next}
 use Rattle.model.specs.declared.least.Next.the-variants.{Tag, Other, Nothing}
 use Rattle.model.proofs.Due.{NextDue, none-due, tag-due, other-due, next-due}
-use Rattle.listing.specs.Entries.{Stepped, more, full, done, EachValid, SomeValid, Further}
+use Rattle.model.specs.Tables.{SomeValid, WhereValid}
+use Rattle.listing.specs.Entries.{Stepped, more, full, done, Further}
 use Rattle.listing.specs.declared.pages.Step.{Step}
 use Rattle.listing.specs.declared.pages.Step.the-variants.{More, Full, Done}
 use Rattle.listing.proofs.Filled.{further-more}
@@ -122,14 +123,14 @@ module _ (t : Tables) (scope : ℕ) (attributes : List ℕ) (limit bound : ℕ) 
       measure-done l q = on-done l (rw q at step)
 
 -- another entry keeps the sum small
-pub measure-few : {structures tags others : List Row} {names tagNames : List ℕ} {scope : ℕ} {attributes : List ℕ} {limit bound total u b h : ℕ}
-    {old new : List ℕ} {s : Step} → SomeValid structures tags others names tagNames
-    → EachValid structures tags others names tagNames (λ t. Measuring limit (due t scope attributes 0) (due t scope attributes bound) total)
-    → EachValid structures tags others names tagNames (λ t. Stepped t scope attributes limit 4 bound old s new) × Further 4 limit s
+pub measure-few : {lent : Tables → Tables} {scope : ℕ} {attributes : List ℕ} {limit bound total u b h : ℕ}
+    {old new : List ℕ} {s : Step} → SomeValid lent
+    → WhereValid lent (λ t. Measuring limit (due t scope attributes 0) (due t scope attributes bound) total)
+    → WhereValid lent (λ t. Stepped t scope attributes limit 4 bound old s new) × Further 4 limit s
     → limit ≤ 65535 → s ≡ More u b h → (total + 65535 ≤ 71302080) × (8 ≤ u) × (u ≤ limit)
 measure-few w m step l q =
-    let few = measure-more _ _ _ _ _ _ _ _ (m (w .members) (w .programs) (w .templates) (w .memory) (w .ok)) _ _
-    (step .0 (w .members) (w .programs) (w .templates) (w .memory) (w .ok)) l q .1 in
+    let few = measure-more _ _ _ _ _ _ _ _ (m (w .rest) (w .memory) (w .ok)) _ _
+    (step .0 (w .rest) (w .memory) (w .ok)) l q .1 in
     let on = further-more _ _ _ q (step .1) in
     (few, on .0, on .1)
 
@@ -207,11 +208,11 @@ step-kept t scope attributes limit used bound a old s new k l (more e i d u h p)
 step-kept t scope attributes limit used bound a old s new k l (full e es d h p) = rw p k
 step-kept t scope attributes limit used bound a old s new k l (done d p) = rw p k
 
-pub walk-kept : {structures tags others : List Row} {names tagNames : List ℕ} {scope : ℕ} {attributes : List ℕ} {limit used bound : ℕ}
+pub walk-kept : {lent : Tables → Tables} {scope : ℕ} {attributes : List ℕ} {limit used bound : ℕ}
     (a : List ℕ) {old new : List ℕ} {s : Step}
-    → SomeValid structures tags others names tagNames → KeptFrom limit a old → limit ≤ length a
-    → EachValid structures tags others names tagNames (λ t. Stepped t scope attributes limit used bound old s new) → KeptFrom limit a new
-walk-kept a w k l each = step-kept _ _ _ _ _ _ _ _ _ _ k (omega (arith, k .1)) (each (w .members) (w .programs) (w .templates) (w .memory) (w .ok))
+    → SomeValid lent → KeptFrom limit a old → limit ≤ length a
+    → WhereValid lent (λ t. Stepped t scope attributes limit used bound old s new) → KeptFrom limit a new
+walk-kept a w k l each = step-kept _ _ _ _ _ _ _ _ _ _ k (omega (arith, k .1)) (each (w .rest) (w .memory) (w .ok))
 
 -- ---- a bound that something is due from: the least ID from it on is not below it
 

@@ -9,7 +9,7 @@ ghost use Rattle.laws.specs.Put.{KeptFrom};
 ghost use Rattle.definition.specs.Bytes.{numbers};
 ghost use Rattle.definition.specs.Symbols.{due};
 ghost use Rattle.model.specs.Least.{nextIn};
-ghost use Rattle.listing.specs.Entries.{EachValid, SomeValid};
+ghost use Rattle.model.specs.Tables.{SomeValid, WhereValid, forPage};
 ghost use Rattle.whole.specs.Lists.{behind};
 ghost use Rattle.whole.specs.Turns.{Measured, front, nextId, startBy, StartsAt};
 
@@ -38,9 +38,10 @@ pub fn measure_all(
     limit: usize,
     buf: &mut [u8],
 ) -> Measure
-    requires { ⌜ SomeValid (now structures) (now tags) (now others) (now names) (now «tag_names») × (2 + 2 * n ≤ length (now body)) × (n ≤ 65535)
+    requires { ⌜ SomeValid (forPage (now structures) (now tags) (now others) (now names) (now «tag_names»))
+        × (2 + 2 * n ≤ length (now body)) × (n ≤ 65535)
         × (4 ≤ limit) × (limit ≤ 65535) × (limit ≤ length (now buf)) ⌝ }
-    ensures { λ r. ⌜ EachValid (now (structures .entry)) (now (tags .entry)) (now (others .entry)) (now (names .entry)) (now («tag_names» .entry))
+    ensures { λ r. ⌜ WhereValid (forPage (now (structures .entry)) (now (tags .entry)) (now (others .entry)) (now (names .entry)) (now («tag_names» .entry)))
         (λ t. Measured (due t scope (numbers n (drop 2 (now (body .entry)))) 0) limit r) × KeptFrom limit (now (buf .entry)) (now (buf .exit)) ⌝ }
 {
     let mut total = 0;
@@ -89,9 +90,10 @@ pub fn measured(
     n: usize,
     limit: usize,
 ) -> Measure
-    requires { ⌜ SomeValid (now structures) (now tags) (now others) (now names) (now «tag_names») × (2 + 2 * n ≤ length (now body)) × (n ≤ 65535)
+    requires { ⌜ SomeValid (forPage (now structures) (now tags) (now others) (now names) (now «tag_names»))
+        × (2 + 2 * n ≤ length (now body)) × (n ≤ 65535)
         × (4 ≤ limit) × (limit ≤ 65535) ⌝ }
-    ensures { λ r. ⌜ EachValid (now (structures .entry)) (now (tags .entry)) (now (others .entry)) (now (names .entry)) (now («tag_names» .entry))
+    ensures { λ r. ⌜ WhereValid (forPage (now (structures .entry)) (now (tags .entry)) (now (others .entry)) (now (names .entry)) (now («tag_names» .entry)))
         (λ t. Measured (due t scope (numbers n (drop 2 (now (body .entry)))) 0) limit r) ⌝ }
 {
     let mut scratch = [0u8; 65535];
@@ -123,10 +125,11 @@ fn next_bound(
     size: usize,
     buf: &mut [u8],
 ) -> u64
-    requires { ⌜ SomeValid (now structures) (now tags) (now others) (now names) (now «tag_names») × (2 + 2 * n ≤ length (now body)) × (n ≤ 65535)
+    requires { ⌜ SomeValid (forPage (now structures) (now tags) (now others) (now names) (now «tag_names»))
+        × (2 + 2 * n ≤ length (now body)) × (n ≤ 65535)
         × (4 ≤ size) × (size ≤ length (now buf)) ⌝ }
     ensures { λ r. let list = numbers n (drop 2 (now (body .entry))) in
-        ⌜ EachValid (now (structures .entry)) (now (tags .entry)) (now (others .entry)) (now (names .entry)) (now («tag_names» .entry))
+        ⌜ WhereValid (forPage (now (structures .entry)) (now (tags .entry)) (now (others .entry)) (now (names .entry)) (now («tag_names» .entry)))
         (λ t. (r ≡ nextId start (front size (due t scope list start))) × (due t scope list r ≡ behind size (due t scope list start)))
         × KeptFrom size (now (buf .entry)) (now (buf .exit)) ⌝ }
 {
@@ -203,10 +206,11 @@ pub fn next_start(
     size: usize,
     buf: &mut [u8],
 ) -> PageStart
-    requires { ⌜ SomeValid (now structures) (now tags) (now others) (now names) (now «tag_names») × (2 + 2 * n ≤ length (now body)) × (n ≤ 65535)
+    requires { ⌜ SomeValid (forPage (now structures) (now tags) (now others) (now names) (now «tag_names»))
+        × (2 + 2 * n ≤ length (now body)) × (n ≤ 65535)
         × (4 ≤ size) × (size ≤ length (now buf)) ⌝ }
     ensures { λ r. let list = numbers n (drop 2 (now (body .entry))) in
-        ⌜ EachValid (now (structures .entry)) (now (tags .entry)) (now (others .entry)) (now (names .entry)) (now («tag_names» .entry))
+        ⌜ WhereValid (forPage (now (structures .entry)) (now (tags .entry)) (now (others .entry)) (now (names .entry)) (now («tag_names» .entry)))
         (λ t. StartsAt t scope list start (front size (due t scope list start)) (behind size (due t scope list start)) r)
         × KeptFrom size (now (buf .entry)) (now (buf .exit)) ⌝ }
 {

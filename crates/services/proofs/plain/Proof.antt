@@ -2,12 +2,20 @@
 use Rattle.listing.proofs.Laws.{in-store}
 use Rattle.services.proofs.Choosing.{plain-symbols, plain-structures, plain-template, plain-by}
 use borrow.Author.Needs.{needs}
+use Rattle.definition.specs.Tables.{Tables}
+use Rattle.model.specs.Tables.{tablesOf}
 use Rattle.services.proofs.plain.Statement.{statement}
 use Rattle.services.proofs.plain.Tie as tie
 
 -- Earlier places, as later ones see them.
 abbrev start-from-object-at : tie.After-object-at → tie.Start
 start-from-object-at c = c .before .before .before .before .before .before .before .before
+
+abbrev tables-from-object-at : tie.After-object-at → Tables
+tables-from-object-at c =
+    let args = start-from-object-at c .args in
+    tablesOf (args .structures .now) (args .members .now) (args .programs .now) (args .tags .now) (args .others .now)
+    (args .names .now) (args .tag-names .now) (args .templates .now)
 
 read-template-requires : tie.Need-read-template-requires
 read-template-requires c κs =
@@ -23,11 +31,10 @@ returns c =
     let back = back .before .before .before in let id = back .id in
     let back = back .before .before in let own-service = back .own-service in
     let object-at = back .before .object-at in
-    let args = start-from-object-at (back .before) .args in
-    plain-symbols (args .structures .now) (args .members .now) (args .programs .now) (args .tags .now)
-    (args .others .now) (args .names .now) (args .tag-names .now) (args .templates .now) _ _ _ _ _ _ _ _ _
+    let t = tables-from-object-at (back .before) in
+    plain-symbols t _ _ _ _ _ _ _ _ _
     (object-at .result) (object-at .ensures) _ (own-service .ensures) _ (id .given .1)
-    (symbol-attributes .ensures _ _ _ _)
+    (symbol-attributes .ensures t)
 
 returns-2 : tie.Need-returns-2
 returns-2 c =
@@ -35,9 +42,8 @@ returns-2 c =
     let back = back .before .before .before in let id2 = back .id2 in
     let back = back .before .before in let own-service = back .own-service in
     let object-at = back .before .object-at in
-    let args = start-from-object-at (back .before) .args in
-    plain-structures (args .structures .now) (args .members .now) (args .programs .now) (args .tags .now)
-    (args .others .now) (args .names .now) (args .tag-names .now) (args .templates .now) _ _ _ _ _ _ _ _ _
+    let t = tables-from-object-at (back .before) in
+    plain-structures t _ _ _ _ _ _ _ _ _
     (object-at .result) (object-at .ensures) _ (own-service .ensures) _ (id2 .given .1) (structure-attributes .ensures)
 
 returns-3 : tie.Need-returns-3
@@ -46,11 +52,10 @@ returns-3 c =
     let back = back .before .before .before .before in let id3 = back .id3 in
     let back = back .before .before in let own-service = back .own-service in
     let object-at = back .before .object-at in
-    let args = start-from-object-at (back .before) .args in
-    plain-template (args .structures .now) (args .members .now) (args .programs .now) (args .tags .now)
-    (args .others .now) (args .names .now) (args .tag-names .now) (args .templates .now) _ _ _ _ _ _ _ _ _
+    let t = tables-from-object-at (back .before) in
+    plain-template t _ _ _ _ _ _ _ _ _
     (object-at .result) (object-at .ensures) _ (own-service .ensures) _ (id3 .given .1)
-    (read-template .ensures _ _ _ _ _ _)
+    (read-template .ensures t)
 
 returns-4 : tie.Need-returns-4
 returns-4 c =
@@ -58,7 +63,7 @@ returns-4 c =
     let back = back .before .before .before in let enum-told = back .enum-told in
     let back = back .before .before in let own-service = back .own-service in
     let object-at = back .before .object-at in
-    plain-by _ _ _ _ _ _ _ _ _ _ _ _ _ _ _ _ _ (object-at .result) (object-at .ensures) _ (own-service .ensures)
+    plain-by _ _ _ _ _ _ _ _ _ _ (object-at .result) (object-at .ensures) _ (own-service .ensures)
     (enum-told .given .1) _ (by-service .ensures)
 
 pub plain-spec : {M : Type 1} → statement M

@@ -3,6 +3,7 @@ use mathlib.Core.Path.{ap, _∙_}
 use Rattle.listing.specs.Objects.{programBy, programObject}
 use Rattle.listing.proofs.Objects.{id-inside, symbol-other, symbol-tag}
 use borrow.Author.Needs.{needs}
+use Rattle.model.specs.Tables.{forAttributes}
 use Rattle.listing.proofs.attributes.symbol_attributes.Statement.{statement}
 use Rattle.listing.proofs.attributes.symbol_attributes.Tie as tie
 
@@ -41,8 +42,8 @@ returns c =
     let back = back .before .before .before .before .before in let i = back .i in
     let back = find-other-id-from-i back in let find-other-id = back .find-other-id in
     let args = start-from-find-other-id back .args in
-    λ s m n t. symbol-other (args .limit) (args .service) (args .body .now) _ _ _ s m (args .programs .now)
-    (args .tags .now) (args .others .now) (args .names .now) n t (args .id) _ _ (named-object .result) (i .given .1)
+    λ o. symbol-other (args .limit) (args .service) (args .body .now) _ _ _
+    (forAttributes (args .programs .now) (args .tags .now) (args .others .now) (args .names .now) o) (args .id) _ _ (named-object .result) (i .given .1)
     (find-other-id .ensures) (named-object .ensures ∙ ap
     (λ x. programObject (programBy (args .programs .now) (args .names .now) x)) (part-of .ensures))
     (attribute-list .ensures)
@@ -53,8 +54,8 @@ returns-2 c =
     let back = back .before .before in let enum-told = back .enum-told in
     let back = back .before .before in let find-other-id = back .find-other-id in
     let args = start-from-find-other-id back .args in
-    λ s m n t. symbol-tag (args .limit) (args .service) (args .body .now) _ _ _ s m (args .programs .now)
-    (args .tags .now) (args .others .now) (args .names .now) n t (args .id) _ (enum-told .given .1)
+    λ o. symbol-tag (args .limit) (args .service) (args .body .now) _ _ _
+    (forAttributes (args .programs .now) (args .tags .now) (args .others .now) (args .names .now) o) (args .id) _ (enum-told .given .1)
     (find-other-id .ensures) (tag-attributes .ensures)
 
 pub symbol-attributes-spec : {M : Type 1} → statement M

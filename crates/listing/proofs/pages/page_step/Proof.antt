@@ -134,8 +134,8 @@ returns c =
     let back = i-from-part-of back in let i = back .i in
     let back = next-near-from-i back in let next-near = back .next-near in
     let args = start-from-next-near back .args in (
-      λ m p z y v. tag-step (args .structures .now) (args .tags .now) (args .others .now) (args .names .now)
-          (args .tag-names .now) (args .scope) (args .bound) _ (next-near .ensures) m p z y v
+      λ o m v. tag-step (args .structures .now) (args .tags .now) (args .others .now) (args .names .now)
+          (args .tag-names .now) (args .scope) (args .bound) _ (next-near .ensures) o m v
           (numbers (args .n) (drop 2 (args .body .now))) _ _ _ _ _ (tag-symbol .result) _ _ _ (i .given .1)
           (part-of .ensures) (tag-symbol .ensures) (entry-step .ensures .0),
       entry-step .ensures .1,
@@ -149,8 +149,8 @@ returns-2 c =
     let back = i2-from-part-of2 back in let i2 = back .i2 in
     let back = next-near-from-i2 back in let next-near = back .next-near in
     let args = start-from-next-near back .args in (
-      λ m p z y v. other-step (args .structures .now) (args .tags .now) (args .others .now) (args .names .now)
-          (args .tag-names .now) (args .scope) (args .bound) _ (next-near .ensures) m p z y v
+      λ o m v. other-step (args .structures .now) (args .tags .now) (args .others .now) (args .names .now)
+          (args .tag-names .now) (args .scope) (args .bound) _ (next-near .ensures) o m v
           (numbers (args .n) (drop 2 (args .body .now))) _ _ _ _ _ (other-symbol .result) _ _ _ (i2 .given .1)
           (part-of2 .ensures) (other-symbol .ensures) (entry-step2 .ensures .0),
       entry-step2 .ensures .1,
@@ -160,8 +160,8 @@ returns-3 : tie.Need-returns-3
 returns-3 c =
     let back = c .before .before in let next-near = back .next-near in
     let args = start-from-next-near back .args in (
-      λ m p z y v. none-step (args .structures .now) (args .tags .now) (args .others .now) (args .names .now)
-          (args .tag-names .now) (args .scope) (args .bound) _ (next-near .ensures) m p z y v
+      λ o m v. none-step (args .structures .now) (args .tags .now) (args .others .now) (args .names .now)
+          (args .tag-names .now) (args .scope) (args .bound) _ (next-near .ensures) o m v
           (numbers (args .n) (drop 2 (args .body .now))) _ _ _ (c .enum-told .given .1),
       tt,
     )

@@ -4,21 +4,21 @@ use Prim.Native.Nat.{_≤_, _-_}
 use mathlib.Core.Path.{_≡_, refl}
 use lib.ListN.{length, drop}
 use Rattle.definition.specs.Bytes.{numbers}
-use Rattle.listing.specs.Entries.{EachValid}
+use Rattle.model.specs.Tables.{WhereValid, forPage}
 use borrow.Author.Needs.{needs}
 use Rattle.listing.proofs.pages.put_page.Statement.{statement}
 use Rattle.listing.proofs.pages.put_page.Tie as tie
 
 abbrev Inv-loop : tie.InvT-loop
 Inv-loop structures tags others names tag-names scope start body n service limit buf₀ end used₀ bound₀ hint₀ buf used bound hint =
-    (4 ≤ used) × (used ≤ end) × (length buf ≡ length buf₀) × EachValid structures tags others names tag-names
+    (4 ≤ used) × (used ≤ end) × (length buf ≡ length buf₀) × WhereValid (forPage structures tags others names tag-names)
     (λ t. Filled t scope (numbers n (drop 2 body)) start service limit end buf₀ used bound buf)
 
 abbrev μ-loop : tie.MeasureT-loop
 μ-loop structures tags others names tag-names scope start body n service limit buf₀ end used₀ bound₀ hint₀ buf used bound hint = end - used
 
 loop-holds : tie.Need-loop-holds Inv-loop μ-loop
-loop-holds c = (search needs, search needs, refl, λ m p z y v. filled-none _ _ _ _ _ _ _ _ (c .end-of .ensures))
+loop-holds c = (search needs, search needs, refl, λ o m v. filled-none _ _ _ _ _ _ _ _ (c .end-of .ensures))
 
 loop-less : tie.Need-loop-less Inv-loop μ-loop
 loop-less c =
@@ -35,7 +35,7 @@ loop-again c =
       search needs,
       search needs,
       search needs,
-      λ m p z y v. entry-added _ _ _ _ _ _ _ _ _ _ _ _ _ (loop .inv .3 m p z y v) (page-step .ensures .0 m p z y v)
+      λ o m v. entry-added _ _ _ _ _ _ _ _ _ _ _ _ _ (loop .inv .3 o m v) (page-step .ensures .0 o m v)
           (u .given .1) (f .0) (search needs),
     )
 
@@ -50,7 +50,7 @@ returns c =
     let back = back .before .before in let loop = back .loop in
     let end-of = back .before .end-of in
     let pre = back .before .before .before .before .before .before .pre in
-    λ m p z y v. page-stopped _ _ _ _ _ _ _ _ _ _ _ _ _ (loop .inv .3 m p z y v) (page-step .ensures .0 m p z y v)
+    λ o m v. page-stopped _ _ _ _ _ _ _ _ _ _ _ _ _ (loop .inv .3 o m v) (page-step .ensures .0 o m v)
     (enum-told .given .1) (loop .inv .1) (end-of .ensures) (pre .3) (stop .ensures)
 
 returns-2 : tie.Need-returns-2 Inv-loop μ-loop
@@ -61,7 +61,7 @@ returns-2 c =
     let back = back .before .before in let loop = back .loop in
     let end-of = back .before .end-of in
     let pre = back .before .before .before .before .before .before .pre in
-    λ m p z y v. page-ended _ _ _ _ _ _ _ _ _ _ _ _ _ (loop .inv .3 m p z y v) (page-step .ensures .0 m p z y v)
+    λ o m v. page-ended _ _ _ _ _ _ _ _ _ _ _ _ _ (loop .inv .3 o m v) (page-step .ensures .0 o m v)
     (enum-told2 .given .1) (loop .inv .1) (end-of .ensures) (pre .3) (close .ensures)
 
 pub put-page-spec : {M : Type 1} → statement M

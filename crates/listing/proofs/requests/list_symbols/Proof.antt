@@ -1,5 +1,5 @@
 -- The definition's refusals in its order: the start, the list, its numbers; what is left is the page.
-use Rattle.listing.proofs.Starts.{lists-unknown, lists-missing, lists-page, lists-refused, some-valid, few-programs}
+use Rattle.listing.proofs.Starts.{lists-unknown, lists-missing, lists-page, lists-refused, page-valid, few-programs}
 use mathlib.Core.Path.{sym, _∙_}
 use native.Mathlib.Omega.{arith}
 use Rattle.listing.proofs.Lists.{count-fits}
@@ -47,7 +47,7 @@ put-page-requires c κs =
     let back = back .before .before in let count = back .count in
     let back = back .before .before in let count-of = back .count-of in
     let start = start-from-slice-known (page-start-from-count-of back .before) in (
-      some-valid _ _ _ _ _ _ (start .pre .1),
+      page-valid _ _ _ _ _ _ (start .pre .1),
       omega (arith, wide16 .ensures, count-fits (start .args .body .now) _ (sym (count .given .1) ∙ count-of .ensures)),
       search needs,
       search needs,

@@ -7,7 +7,7 @@ use Rattle.listing.proofs.symbols.other_symbol.Tie as tie
 
 returns : tie.Need-returns
 unfolding otherSymbol
-returns c = λ s m p t o n q z. refl
+returns c = λ t. refl
 
 pub other-symbol-spec : {M : Type 1} → statement M
 other-symbol-spec = tie.close (tie.spec (λ c. search needs) (λ c. search needs) returns)

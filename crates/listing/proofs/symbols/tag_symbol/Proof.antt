@@ -12,7 +12,7 @@ returns c =
     let count-lengths = back .before .count-lengths in
     let back = back .before .before .before .before .before in let shapes = back .shapes in
     let start = back .before .before .before .before in
-    λ m p t o n q z. tag-made (start .args .structures .now) m p t o n q z (start .args .row .now) _ _ _ refl
+    tag-made (start .args .structures .now) (start .args .row .now) _ _ _ refl
     (count-lengths .ensures .0) (symbol-type .ensures) (control-of .ensures) (c .before .before .element-size .ensures)
     (shapes .ensures) refl (c .low8 .ensures) (start .pre .0) (start .pre .1)
 

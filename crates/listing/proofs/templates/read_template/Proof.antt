@@ -1,6 +1,7 @@
 -- What the lookup found decides, as in the definition; an index that was found is a row's, whose template lies in the store.
 use Rattle.listing.proofs.Laws.{template-inside, read-found, read-unknown}
 use borrow.Author.Needs.{needs}
+use Rattle.model.specs.Tables.{forTemplate}
 use Rattle.listing.proofs.templates.read_template.Statement.{statement}
 use Rattle.listing.proofs.templates.read_template.Tie as tie
 
@@ -44,7 +45,7 @@ returns c =
     let back = back .before .before .before .before .before in let i = back .i in
     let back = find-template-from-i back in let find-template = back .find-template in
     let args = start-from-find-template back .args in
-    λ m p t o n q. read-found (args .structures .now) m p t o n q (args .templates .now) (args .service) (args .id)
+    λ o. read-found (forTemplate (args .structures .now) (args .templates .now) o) (args .service) (args .id)
     (args .body .now) (args .limit) _ _ _ _ _ (i .given .1) (find-template .ensures) (template-reply .ensures)
 
 returns-2 : tie.Need-returns-2
@@ -53,7 +54,7 @@ returns-2 c =
     let back = back .before .before in let enum-told = back .enum-told in
     let back = back .before .before in let find-template = back .find-template in
     let args = start-from-find-template back .args in
-    λ m p t o n q. read-unknown (args .structures .now) m p t o n q (args .templates .now) (args .service) (args .id)
+    λ o. read-unknown (forTemplate (args .structures .now) (args .templates .now) o) (args .service) (args .id)
     (args .body .now) (args .limit) _ _ _ _ (enum-told .given .1) (find-template .ensures) (fail .ensures)
 
 pub read-template-spec : {M : Type 1} → statement M

@@ -1,9 +1,10 @@
 -- What was measured decides, as in the definition; the last page stays in the buffer.
 use mathlib.Core.Path.{refl}
 use native.Mathlib.Omega.{arith}
-use Rattle.whole.proofs.Paging.{few-numbers, some-tables}
+use Rattle.whole.proofs.Paging.{tables-asked, few-numbers}
 use Rattle.whole.proofs.Outcomes.{list-tiny, list-narrow, list-total, list-short, list-joined}
 use borrow.Author.Needs.{needs}
+use Rattle.model.proofs.Lent.{some-valid}
 use Rattle.whole.proofs.lists.list_granted.Statement.{statement}
 use Rattle.whole.proofs.lists.list_granted.Tie as tie
 
@@ -18,7 +19,7 @@ returns c =
 
 measured-requires : tie.Need-measured-requires
 measured-requires c κs = (
-  some-tables _ _ _ _ _ _ _ _ _ (start-from-slice-known3 (c .before) .pre .0 .tables),
+  some-valid _ _ _ (start-from-slice-known3 (c .before) .pre .0 .tables) refl,
   start-from-slice-known3 (c .before) .pre .1 .list-fits,
   let pre = start-from-slice-known3 (c .before) .pre in
       few-numbers (pre .0) (pre .1),
@@ -30,14 +31,14 @@ returns-2 : tie.Need-returns-2
 returns-2 c =
     let back = c .before .before in let measured = back .measured in
     let pre = start-from-slice-known3 (back .before .before) .pre in
-    (list-narrow (pre .1) _ _ _ _ (measured .ensures _ _ _ _ (pre .0 .tables)) (c .enum-told .given .1), refl)
+    (list-narrow (pre .1) _ _ _ _ (measured .ensures (tables-asked (pre .0)) _ (pre .0 .tables)) (c .enum-told .given .1), refl)
 
 returns-3 : tie.Need-returns-3
 returns-3 c =
     let back = c .before .before in let total = back .total in
     let back = back .before .before in let measured = back .measured in
     let pre = start-from-slice-known3 (back .before .before) .pre in
-    (list-short (pre .1) _ _ _ _ (measured .ensures _ _ _ _ (pre .0 .tables)) (total .given .1) (c .if2 .taken), refl)
+    (list-short (pre .1) _ _ _ _ (measured .ensures (tables-asked (pre .0)) _ (pre .0 .tables)) (total .given .1) (c .if2 .taken), refl)
 
 join-pages-requires : tie.Need-join-pages-requires
 join-pages-requires c κs =
@@ -45,7 +46,7 @@ join-pages-requires c κs =
     let back = back .before .before in let total = back .total in
     let back = back .before .before in let measured = back .measured in
     let pre = start-from-slice-known3 (back .before .before) .pre in
-    let a = list-total _ _ (measured .ensures _ _ _ _ (pre .0 .tables)) (total .given .1) in
+    let a = list-total _ _ (measured .ensures (tables-asked (pre .0)) _ (pre .0 .tables)) (total .given .1) in
     (pre .0, pre .1, a .1, omega (arith, a .0, if2 .left))
 
 returns-4 : tie.Need-returns-4
@@ -55,7 +56,7 @@ returns-4 c =
     let back = back .before .before in let total = back .total in
     let back = back .before .before in let measured = back .measured in
     let pre = start-from-slice-known3 (back .before .before) .pre in (
-      list-joined (pre .1) _ _ _ _ (measured .ensures _ _ _ _ (pre .0 .tables)) (total .given .1) (if2 .left)
+      list-joined (pre .1) _ _ _ _ (measured .ensures (tables-asked (pre .0)) _ (pre .0 .tables)) (total .given .1) (if2 .left)
           (join-pages .ensures .0) (join-pages .ensures .2),
       join-pages .ensures .1,
     )

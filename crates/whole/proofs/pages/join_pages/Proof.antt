@@ -2,7 +2,7 @@
 use mathlib.Core.Path.{sym, ap, _≡_, refl, _∙_}
 use Rattle.whole.proofs.Paging.{joins-behind, due-some, joins-few, Joins, joins-none, joins-fit, joins-further}
 use Rattle.whole.proofs.Paging.{joins-on, joins-last, joins-left, page-walked, page-stays, starts-known}
-use Rattle.whole.proofs.Paging.{starts-nowhere, turn-askable, some-tables}
+use Rattle.whole.proofs.Paging.{starts-nowhere, turn-askable, tables-asked}
 use Rattle.whole.proofs.Walking.{due-few}
 use mathlib.Core.List.{List}
 use Prim.Native.Nat.{ℕ, _-_}
@@ -15,6 +15,7 @@ use Rattle.definition.specs.Symbols.{due}
 use Rattle.model.specs.Tables.{tablesOf}
 use Rattle.whole.proofs.Asking.{askable-short}
 use borrow.Author.Needs.{needs}
+use Rattle.model.proofs.Lent.{some-valid}
 use Rattle.whole.proofs.pages.join_pages.Statement.{statement}
 use Rattle.whole.proofs.pages.join_pages.Tie as tie
 
@@ -109,7 +110,7 @@ next-start-requires c κs =
     let back = join-page-from-end2 back in let join-page = back .join-page in
     let back = loop-from-join-page back in let loop = back .loop in
     let start = start-from-loop back in (
-      some-tables _ _ _ _ _ _ _ _ _ (start .pre .0 .tables),
+      some-valid _ _ _ (start .pre .0 .tables) refl,
       start .pre .1 .list-fits,
       omega (
         arith,
@@ -150,7 +151,7 @@ loop-again c =
           (join-page .ensures .2) _ _ (b .1) (next-start .ensures .1),
       omega (arith, join-page .kept, loop .inv .2),
       joins-on (loop .inv .3) (pre .3) (join-page .ensures .0) _ _ (end2 .given .1)
-          (starts-known _ _ _ _ _ _ _ (next-start .ensures .0 _ _ _ _ (pre .0 .tables)) _ (c .before .id .given .1) ∙ b .0),
+          (starts-known _ _ _ _ _ _ _ (next-start .ensures .0 (tables-asked (pre .0)) _ (pre .0 .tables)) _ (c .before .id .given .1) ∙ b .0),
     )
 
 enum-told : tie.Need-enum-told Inv-loop μ-loop
@@ -172,7 +173,7 @@ returns-2 c =
     let pre = start-from-loop back .pre in
     absurd (joins-left (loop .inv .3) (pre .3) (join-page .ensures .0) _ (end2 .given .1)
     (sym (joins-behind (loop .inv .3) (pre .3) (join-page .ensures .0) _ _ (due-some _ _ _ _) (end2 .given .1) refl .0)
-    ∙ starts-nowhere _ _ _ _ _ _ _ (next-start .ensures .0 _ _ _ _ (pre .0 .tables)) (c .enum-told .given .1)))
+    ∙ starts-nowhere _ _ _ _ _ _ _ (next-start .ensures .0 (tables-asked (pre .0)) _ (pre .0 .tables)) (c .enum-told .given .1)))
 
 pub join-pages-spec : {M : Type 1} → statement M
 join-pages-spec =

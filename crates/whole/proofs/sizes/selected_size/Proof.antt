@@ -1,8 +1,9 @@
 -- The definition's cases in its order: no segments, no tag path, no target; a target that is found lies in tag memory.
 use native.Mathlib.Omega.{arith}
-use lib.ListN.{length}
 use Rattle.whole.proofs.Sizing.{check-some, size-cut, size-no-tag, size-turned, size-aimed, size-found}
+use mathlib.Core.Path.{refl}
 use borrow.Author.Needs.{needs}
+use Rattle.model.proofs.Lent.{some-valid}
 use Rattle.whole.proofs.sizes.selected_size.Statement.{statement}
 use Rattle.whole.proofs.sizes.selected_size.Tie as tie
 
@@ -31,12 +32,7 @@ tag-target-requires c κs =
     let back = check-path-from-enum-told back in let check-path = back .check-path in
     let start = start-from-check-path back in (
       check-some (start .args .path .now) _ _ (check-path .ensures) (enum-told .given .1),
-      record {
-        others = start .args .others .now;
-        templates = start .args .templates .now;
-        memory = length (start .args .memory .now);
-        ok = start .pre;
-      },
+      some-valid _ _ _ (start .pre) refl,
     )
 
 granted-size-requires : tie.Need-granted-size-requires

@@ -6,7 +6,7 @@ use lib.ListN.{drop}
 use Rattle.laws.specs.Put.{KeptFrom}
 use Rattle.definition.specs.Bytes.{numbers}
 use Rattle.definition.specs.Symbols.{due}
-use Rattle.listing.specs.Entries.{EachValid}
+use Rattle.model.specs.Tables.{WhereValid, forPage}
 use Rattle.listing.proofs.Filled.{further-more}
 use Rattle.whole.proofs.Walking.{Measuring, due-few, measure-none, measure-more, measure-few, measure-full, measure-done, walk-kept}
 use borrow.Author.Needs.{needs}
@@ -15,7 +15,7 @@ use Rattle.whole.proofs.walks.measure_all.Tie as tie
 
 abbrev Inv-loop : tie.InvT-loop
 Inv-loop structures tags others names tag-names scope body n limit buf₀ total₀ bound₀ hint₀ buf total bound hint =
-    KeptFrom limit buf₀ buf × EachValid structures tags others names tag-names
+    KeptFrom limit buf₀ buf × WhereValid (forPage structures tags others names tag-names)
     (λ t. Measuring limit (due t scope (numbers n (drop 2 body)) 0) (due t scope (numbers n (drop 2 body)) bound) total)
 
 abbrev μ-loop : tie.MeasureT-loop
@@ -32,7 +32,7 @@ abbrev page-step-from-u : tie.After-u Inv-loop μ-loop → tie.After-page-step I
 page-step-from-u c = c .before .before .before .before
 
 loop-holds : tie.Need-loop-holds Inv-loop μ-loop
-loop-holds c = ((refl, refl), λ m p z y v. measure-none _ _ (due-few _ y v _ _ _))
+loop-holds c = ((refl, refl), λ o m v. measure-none _ _ (due-few _ m v _ _ _))
 
 sub-total : tie.Need-sub-total Inv-loop μ-loop
 sub-total c =
@@ -65,7 +65,7 @@ loop-again c =
     let back = loop-from-page-step back in let loop = back .loop in
     let pre = start-from-loop back .pre in (
       walk-kept _ (pre .0) (loop .inv .0) (pre .5) (page-step .ensures .0),
-      λ m p z y v. measure-more _ _ _ _ _ _ _ _ (loop .inv .1 m p z y v) _ _ (page-step .ensures .0 m p z y v) (pre .4)
+      λ o m v. measure-more _ _ _ _ _ _ _ _ (loop .inv .1 o m v) _ _ (page-step .ensures .0 o m v) (pre .4)
           (c .before .u .given .1) .0,
     )
 
@@ -77,7 +77,7 @@ returns c =
     let back = c .before .before .before .before in let page-step = back .page-step in
     let back = loop-from-page-step back in let loop = back .loop in
     let pre = start-from-loop back .pre in (
-      λ m p z y v. measure-full _ _ _ _ _ _ _ _ (loop .inv .1 m p z y v) _ _ (page-step .ensures .0 m p z y v)
+      λ o m v. measure-full _ _ _ _ _ _ _ _ (loop .inv .1 o m v) _ _ (page-step .ensures .0 o m v)
           (c .enum-told .given .1),
       walk-kept _ (pre .0) (loop .inv .0) (pre .5) (page-step .ensures .0),
     )
@@ -87,7 +87,7 @@ returns-2 c =
     let back = c .before .before .before .before in let page-step = back .page-step in
     let back = loop-from-page-step back in let loop = back .loop in
     let pre = start-from-loop back .pre in (
-      λ m p z y v. measure-done _ _ _ _ _ _ _ _ (loop .inv .1 m p z y v) _ _ (page-step .ensures .0 m p z y v) (pre .3)
+      λ o m v. measure-done _ _ _ _ _ _ _ _ (loop .inv .1 o m v) _ _ (page-step .ensures .0 o m v) (pre .3)
           (c .enum-told2 .given .1),
       walk-kept _ (pre .0) (loop .inv .0) (pre .5) (page-step .ensures .0),
     )

@@ -5,7 +5,7 @@ use lib.ListN.{drop}
 use Rattle.laws.specs.Put.{KeptFrom}
 use Rattle.definition.specs.Bytes.{numbers}
 use Rattle.definition.specs.Symbols.{due}
-use Rattle.listing.specs.Entries.{EachValid}
+use Rattle.model.specs.Tables.{WhereValid, forPage}
 use Rattle.listing.proofs.Filled.{further-more}
 use Rattle.whole.specs.Lists.{behind}
 use Rattle.whole.specs.Turns.{front, nextId}
@@ -18,7 +18,7 @@ abbrev Inv-loop : tie.InvT-loop
 Inv-loop structures tags others names tag-names scope start body n size buf₀ used₀ bound₀ hint₀ buf used bound hint =
     let list = numbers n (drop 2 body) in
     (4 ≤ used) × (used ≤ size) × KeptFrom size buf₀ buf
-    × EachValid structures tags others names tag-names
+    × WhereValid (forPage structures tags others names tag-names)
     (λ t. Passes t scope list (size - used) bound (nextId start (front size (due t scope list start))) (behind size (due t scope list start)))
 
 abbrev μ-loop : tie.MeasureT-loop
@@ -32,7 +32,7 @@ abbrev page-step-from-u : tie.After-u Inv-loop μ-loop → tie.After-page-step I
 page-step-from-u c = c .before .before .before .before
 
 loop-holds : tie.Need-loop-holds Inv-loop μ-loop
-loop-holds c = (search needs, search needs, (refl, refl), λ m p z y v. (refl, refl))
+loop-holds c = (search needs, search needs, (refl, refl), λ o m v. (refl, refl))
 
 loop-less : tie.Need-loop-less Inv-loop μ-loop
 loop-less c =
@@ -54,7 +54,7 @@ loop-again c =
       let back = page-step-from-u (c .before) in
           let page-step = back .page-step in
           let loop = back .before .before .loop in
-          λ m p z y v. bound-more _ _ _ _ _ _ _ _ _ (loop .inv .3 m p z y v) _ _ (page-step .ensures .0 m p z y v)
+          λ o m v. bound-more _ _ _ _ _ _ _ _ _ (loop .inv .3 o m v) _ _ (page-step .ensures .0 o m v)
           (c .before .u .given .1),
     )
 
@@ -66,7 +66,7 @@ returns c =
     let back = c .before .before .before .before in let page-step = back .page-step in
     let back = back .before .before in let loop = back .loop in
     let pre = start-from-loop back .pre in (
-      λ m p z y v. bound-full _ _ _ _ _ _ _ _ _ (loop .inv .3 m p z y v) _ _ (page-step .ensures .0 m p z y v)
+      λ o m v. bound-full _ _ _ _ _ _ _ _ _ (loop .inv .3 o m v) _ _ (page-step .ensures .0 o m v)
           (c .enum-told .given .1) (loop .inv .1),
       walk-kept _ (pre .0) (loop .inv .2) (pre .4) (page-step .ensures .0),
     )
@@ -76,7 +76,7 @@ returns-2 c =
     let back = c .before .before .before .before in let page-step = back .page-step in
     let back = back .before .before in let loop = back .loop in
     let pre = start-from-loop back .pre in (
-      λ m p z y v. bound-done _ _ _ _ _ _ _ _ _ (loop .inv .3 m p z y v) _ _ (page-step .ensures .0 m p z y v)
+      λ o m v. bound-done _ _ _ _ _ _ _ _ _ (loop .inv .3 o m v) _ _ (page-step .ensures .0 o m v)
           (c .enum-told2 .given .1),
       walk-kept _ (pre .0) (loop .inv .2) (pre .4) (page-step .ensures .0),
     )

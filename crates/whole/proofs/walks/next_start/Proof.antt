@@ -7,7 +7,7 @@ use Rattle.whole.proofs.walks.next_start.Tie as tie
 returns : tie.Need-returns
 returns c =
     let next-bound = c .before .before .before .next-bound in (
-      λ m p z y v. starts-next _ _ _ _ _ _ _ (next-bound .ensures .0 m p z y v) y v _ (c .start-from .ensures),
+      λ o m v. starts-next _ _ _ _ _ _ _ (next-bound .ensures .0 o m v) m v _ (c .start-from .ensures),
       next-bound .ensures .1,
     )
 
