@@ -48,8 +48,6 @@ module _ {A : Type 0} (p : A → Bool) (d : A) (i k : ℕ) (xs : List A) (here :
   unfolding every
   every-done h = rw (drop-of-length-le xs h) at here
 
-pub ruleset afters = (every-on, every-off, every-done)
-
 -- each element before i passes
 module _ {A : Type 0} (p : A → Bool) (d : A) (i : ℕ) (xs : List A) (here : every p (drop i xs) ≡ every p xs) where
   pub every-next : {r : Bool} {j : ℕ} → i < length xs → r ≡ p (getD xs i d) → r ≡ true → j ≡ i + 1 → every p (drop j xs) ≡ every p xs
@@ -93,5 +91,3 @@ module _ {A : Type 0} (p : A → A → Bool) (d : A) (i : ℕ) (xs : List A) (he
   pub pairs-end : length xs ≤ i → true ≡ pairs p xs
   unfolding pairs
   pairs-end h = rw (drop-of-length-le xs h) at here
-
-pub ruleset pair-loops = (pairs-next, pairs-stop, pairs-end)

@@ -25,8 +25,6 @@ module _ {A R : Type 0} (p : A → Bool) (hit : ℕ
   unfolding scan
   scan-none h = rw (drop-of-length-le xs h) at here
 
-pub ruleset scans = (scan-next, scan-found, scan-none)
-
 -- a function goes through a scan
 pub scan-map : {A R S : Type 0} (h : R → S) (p : A → Bool) (hit : ℕ → R) (miss : R) (i : ℕ) (xs : List A)
     → h (scan p hit miss i xs) ≡ scan p (λ j. h (hit j)) (h miss) i xs
