@@ -7,12 +7,12 @@ use native.Mathlib.Numerals.{add-one}
 use lib.ListN.{length, getD, take}
 use lib.Seq.{take-suc, take-all}
 use Rattle.definition.specs.Entry.{Outcome as Defined, refused, replied, Entered}
-use Rattle.logix.specs.Entering.{Says, Enters}
+use Rattle.logix.specs.Entering.{IsOutcome, Enters}
 use Rattle.logix.specs.declared.entry.Outcome.{Outcome}
 use Rattle.logix.specs.declared.entry.Outcome.the-variants.{Reply, Refused}
 use Rattle.bench.specs.Sent.{lengthOf, lengthIn, Sends}
 
-length-said : (o : Outcome) (d : Defined) → Says o d → lengthIn o ≡ lengthOf d
+length-said : (o : Outcome) (d : Defined) → IsOutcome o d → lengthIn o ≡ lengthOf d
 length-said (Reply n) (replied bytes) s = s
 length-said (Reply n) (refused number) s = absurd s
 length-said (Refused why) (replied bytes) s = absurd s

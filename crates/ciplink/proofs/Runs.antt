@@ -8,7 +8,7 @@ use lib.ListN.{length}
 use borrow.Author.Tests.{lt-ltb, le-ltb}
 use Rattle.definition.specs.Tables.{Tables, Flags}
 use Rattle.definition.specs.Entry.{Outcome, refused, replied}
-use Rattle.definition.proofs.Enters.{Enters as Ways, stopped, taken, enters}
+use Rattle.definition.proofs.Enters.{Ways, stopped, taken, enters}
 use Rattle.definition.proofs.Replies.{proper-answer}
 use Rattle.continued.specs.Reads.{Sent}
 use Rattle.continued.specs.Point3.{Memory, respond}

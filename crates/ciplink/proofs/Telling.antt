@@ -7,7 +7,7 @@ use Rattle.definition.specs.Tables.{Tables, Flags}
 use Rattle.definition.specs.Answer.{answer}
 use Rattle.definition.specs.Entry.{Outcome as Defined, refused, replied, entry}
 use Rattle.services.specs.Answers.{Answers}
-use Rattle.logix.specs.Entering.{numberOf, Says, Enters}
+use Rattle.logix.specs.Entering.{numberOf, IsOutcome, Enters}
 use Rattle.logix.specs.declared.entry.Refusal.{Refusal}
 use Rattle.logix.specs.declared.entry.Outcome.{Outcome}
 use Rattle.logix.specs.declared.entry.Outcome.the-variants.{Reply, Refused}
@@ -17,11 +17,11 @@ use Rattle.whole.specs.Whole.{Received, received, wholeRead}
 use Rattle.whole.specs.Lists.{wholeList}
 use Rattle.ciplink.specs.Entries.{codeOf, ToldReply, wholeCode, ToldWhole}
 
-says-reply : (n : ℕ) (d : Defined) → Says (Reply n) d → n ≡ codeOf d
+says-reply : (n : ℕ) (d : Defined) → IsOutcome (Reply n) d → n ≡ codeOf d
 says-reply n (replied bytes) h = h
 says-reply n (refused number) h = absurd h
 
-says-refused : (why : Refusal) (d : Defined) → Says (Refused why) d → 0x100000000 + numberOf why ≡ codeOf d
+says-refused : (why : Refusal) (d : Defined) → IsOutcome (Refused why) d → 0x100000000 + numberOf why ≡ codeOf d
 says-refused why (replied bytes) h = absurd h
 says-refused why (refused number) h = ap (λ (k : ℕ). 0x100000000 + k) h
 

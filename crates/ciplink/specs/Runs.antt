@@ -9,18 +9,18 @@ use Rattle.definition.specs.Tables.{Tables}
 use Rattle.definition.specs.Entry.{Outcome, refused, replied}
 use Rattle.continued.specs.Reads.{Sent}
 use Rattle.continued.specs.Point3.{Memory, respond}
-use Rattle.continued.specs.Program.{Step, Total, Point-3, Taken, ByAnswer}
+use Rattle.continued.specs.Program.{ProgramStep, Total, Point-3, Taken, ByAnswer}
 use Rattle.ciplink.specs.Entries.{flagsIn, ToldReply}
 
 -- what the 64 bits of `ciplink_message` tell: a reply of so many of the buffer's first bytes, or from 0x1_0000_0000 on a refusal's number
 abbrev pub toldBy : (code : ℕ) (buffer : List ℕ) → Outcome
 toldBy code buffer = pick (ltb code 0x100000000) (replied (take code buffer)) (refused (code - 0x100000000))
 
-abbrev pub ByCiplinkMessage : Tables → (flags : ℕ) → Step
+abbrev pub ByCiplinkMessage : Tables → (flags : ℕ) → ProgramStep
 ByCiplinkMessage t flags s m o buffer left = (code : ℕ) × (o ≡ toldBy code buffer) × ToldReply (respond t (flagsIn flags) s m) code buffer left
 
 -- the contract of `ciplink_answer` is that of `answer`, with flags as bits
-abbrev pub ByCiplinkAnswer : Tables → (flags : ℕ) → Step
+abbrev pub ByCiplinkAnswer : Tables → (flags : ℕ) → ProgramStep
 ByCiplinkAnswer t flags = ByAnswer t (flagsIn flags)
 
 abbrev pub Ciplink-message-point-3 : Type 0

@@ -26,7 +26,7 @@ use Rattle.definition.specs.Symbols.{listing, due, isListed, listSymbols}
 use Rattle.definition.specs.Answer.{onTarget, tagService, byService, plain, answer}
 use Rattle.definition.specs.Entry.{Entered, replied, lay, entry}
 use Rattle.definition.specs.Promises.{Grants}
-use Rattle.definition.proofs.Enters.{Enters as Ways, stopped, taken, enters}
+use Rattle.definition.proofs.Enters.{Ways, stopped, taken, enters}
 use Rattle.definition.proofs.Granted.{past-objects}
 use Rattle.definition.proofs.Listing.{listing-sorted, listing-some}
 use Rattle.definition.proofs.Selected.{granted-some}

@@ -12,15 +12,15 @@ use Rattle.definition.specs.Reply.{room}
 use Rattle.definition.specs.Tables.{Tables, Flags}
 use Rattle.definition.specs.Answer.{answer}
 use Rattle.definition.specs.Entry.{Outcome, refused, replied, lay, entry}
-use Rattle.definition.proofs.Enters.{Enters as Ways, stopped, taken, enters}
-use Rattle.logix.specs.Entering.{Says, numberOf}
+use Rattle.definition.proofs.Enters.{Ways, stopped, taken, enters}
+use Rattle.logix.specs.Entering.{IsOutcome, numberOf}
 use Rattle.logix.specs.declared.entry.Refusal.{Refusal}
 use Rattle.logix.specs.declared.entry.Refusal.the-variants.{RequestTooLong, LimitTooLarge, BufferTooShort, TablesInvalid}
 use Rattle.logix.specs.declared.entry.Outcome.{Outcome as Result}
 use Rattle.logix.specs.declared.entry.Outcome.the-variants.{Reply, Refused}
 use Rattle.continued.specs.Reads.{Sent, Turn, ours, other, Answered, heard, talk}
 use Rattle.continued.specs.Point3.{Memory, respond, hears, leaves, Event, message, changed, steps}
-use Rattle.continued.specs.Program.{Runs, ended, next-ours, next-other, Step, ByStep, ByEvent, RunsOf, Leaves, Faithful, Total, Reads-delivered, Pages-listed, Program-point-3, Runs-exist, told, ByMessage, Taken, ByAnswer, Message-point-3, Answer-point-3}
+use Rattle.continued.specs.Program.{Runs, ended, next-ours, next-other, ProgramStep, ByStep, ByEvent, RunsOf, Leaves, Faithful, Total, Reads-delivered, Pages-listed, Program-point-3, Runs-exist, told, ByMessage, Taken, ByAnswer, Message-point-3, Answer-point-3}
 use Rattle.continued.proofs.Point3.{continued-reads, continued-pages}
 
 -- ---- over any states and events: a run whose turns leave what the controller leaves hears what it says
@@ -53,7 +53,7 @@ module _ {State Event : Type 0} (Hears : Sent → State → Outcome → State �
 
 -- ---- on a tag memory
 
-module _ (t : Tables) (f : Flags) (step : Step) (faithful : Faithful t f step) where
+module _ (t : Tables) (f : Flags) (step : ProgramStep) (faithful : Faithful t f step) where
   hears-is : (s : Sent) (m left : Memory) (o : Outcome) → ByStep step s m o left → (o ≡ hears t f s m) × (left ≡ leaves t f s m)
   hears-is s m left o (buffer, e) = let x = faithful s m o buffer left e in (x .outcome-is, x .memory-is)
 
@@ -112,7 +112,7 @@ leaves-by t f s m o buffer left e b l = record {
 
 -- ---- `message`
 
-told-says : (r : Result) (d : Outcome) (buffer : List ℕ) → Says r d → told r buffer ≡ toldAs d buffer
+told-says : (r : Result) (d : Outcome) (buffer : List ℕ) → IsOutcome r d → told r buffer ≡ toldAs d buffer
 told-says (Reply n) (replied bytes) buffer e = rw e refl
 told-says (Reply n) (refused number) buffer e = absurd e
 told-says (Refused why) (replied bytes) buffer e = absurd e
@@ -127,11 +127,11 @@ refusal-by (suc (suc (suc (suc zero)))) a b = (TablesInvalid, refl)
 refusal-by (suc (suc (suc (suc (suc n))))) a b = absurd (omega arith)
 
 -- some result says the entry's outcome
-result-of : (t : Tables) (f : Flags) (s : Sent) (m : Memory) → (r : Result) × Says r (respond t f s m .outcome)
+result-of : (t : Tables) (f : Flags) (s : Sent) (m : Memory) → (r : Result) × IsOutcome r (respond t f s m .outcome)
 unfolding respond
 result-of t f s m = go (enters t f m (s .request) (s .limit) (s .buffer))
   where
-    go : Ways t f m (s .request) (s .limit) (s .buffer) → (r : Result) × Says r (respond t f s m .outcome)
+    go : Ways t f m (s .request) (s .limit) (s .buffer) → (r : Result) × IsOutcome r (respond t f s m .outcome)
     go (stopped number a b e) = let x = refusal-by number a b in (Refused (x .0), rw e (x .1))
     go (taken a b c d e) = (Reply (length (answer t f m (s .request) (s .limit) .reply)), rw e refl)
 

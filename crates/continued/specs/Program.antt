@@ -35,17 +35,17 @@ module _ {State Event : Type 0} (Hears : Sent → State → Outcome → State �
 
 -- ---- on a tag memory: what one step of a program is, by the outcome that it tells, the reply buffer and the memory that it leaves
 
-abbrev pub Step : Type 1
-Step = Sent → Memory → Outcome → (buffer left : List ℕ) → Type 0
+abbrev pub ProgramStep : Type 1
+ProgramStep = Sent → Memory → Outcome → (buffer left : List ℕ) → Type 0
 
-abbrev pub ByStep : Step → Sent → Memory → Outcome → Memory → Type 0
+abbrev pub ByStep : ProgramStep → Sent → Memory → Outcome → Memory → Type 0
 ByStep step s m o left = (buffer : List ℕ) × step s m o buffer left
 
-abbrev pub ByEvent : Step → Event → Memory → Memory → Type 0
+abbrev pub ByEvent : ProgramStep → Event → Memory → Memory → Type 0
 ByEvent step (message s) m left = (o : Outcome) × ByStep step s m o left
 ByEvent step (changed memory) m left = left ≡ memory
 
-abbrev pub RunsOf : Step → (h : ℕ) → Memory → List Answered → List (Turn Event) → List Answered → Type 0
+abbrev pub RunsOf : ProgramStep → (h : ℕ) → Memory → List Answered → List (Turn Event) → List Answered → Type 0
 RunsOf step = Runs (ByStep step) (ByEvent step)
 
 -- the definition's outcome, buffer and memory
@@ -54,23 +54,23 @@ pub record Leaves (e : Entered) (o : Outcome) (buffer left : List ℕ) : Type 0 
   pub buffer-is : buffer ≡ e .buffer
   pub memory-is : left ≡ e .memory
 
-abbrev pub Faithful : Tables → Flags → Step → Type 0
+abbrev pub Faithful : Tables → Flags → ProgramStep → Type 0
 Faithful t f step = (s : Sent) (m : Memory) (o : Outcome) (buffer left : List ℕ) → step s m o buffer left → Leaves (respond t f s m) o buffer left
 
 -- every message has a step
-abbrev pub Total : Step → Type 0
+abbrev pub Total : ProgramStep → Type 0
 Total step = (s : Sent) (m : Memory) → (o : Outcome) × (buffer left : List ℕ) × step s m o buffer left
 
 -- ---- what is claimed of a program's runs
 
-abbrev pub Reads-delivered : Tables → Flags → Step → Type 0
+abbrev pub Reads-delivered : Tables → Flags → ProgramStep → Type 0
 Reads-delivered t f step =
     (path : List Segment) (elements : ℕ) (g : Grants t f path elements) (m : Memory) (turns : List (Turn Event)) (out : List Answered)
     → valid t (length m) ≡ true → FairReads t f (Reads path elements) (g .selected) m turns
     → RunsOf step (length (g .selected .header)) m [] turns out
     → Delivered (selectedBytes (g .selected) m) (length (g .selected .header)) out
 
-abbrev pub Pages-listed : Tables → Flags → Step → Type 0
+abbrev pub Pages-listed : Tables → Flags → ProgramStep → Type 0
 Pages-listed t f step =
     (scope : ℕ) (attributes : List ℕ) (first : ℕ) (m : Memory) (turns : List (Turn Event)) (out : List Answered)
     → valid t (length m) ≡ true → every isListed attributes ≡ true
@@ -78,17 +78,17 @@ Pages-listed t f step =
     → RunsOf step 0 m [] turns out
     → Listed (due t scope attributes first) out
 
-abbrev pub Point-3 : Tables → Flags → Step → Type 0
+abbrev pub Point-3 : Tables → Flags → ProgramStep → Type 0
 Point-3 t f step = Reads-delivered t f step × Pages-listed t f step
 
 -- of every program whose steps leave what the definition leaves
 abbrev pub Program-point-3 : Type 1
-Program-point-3 = (t : Tables) (f : Flags) (step : Step) → Faithful t f step → Point-3 t f step
+Program-point-3 = (t : Tables) (f : Flags) (step : ProgramStep) → Faithful t f step → Point-3 t f step
 
 -- every list of turns has a run, from every memory
 abbrev pub Runs-exist : Type 1
 Runs-exist =
-    (step : Step) → Total step → (h : ℕ) (m : Memory) (answers : List Answered) (turns : List (Turn Event))
+    (step : ProgramStep) → Total step → (h : ℕ) (m : Memory) (answers : List Answered) (turns : List (Turn Event))
     → (out : List Answered) × RunsOf step h m answers turns out
 
 -- ---- the steps of `message` and of `answer` on valid tables, by their contracts alone
@@ -98,7 +98,7 @@ abbrev pub told : Result → (buffer : List ℕ) → Outcome
 told (Reply n) buffer = replied (take n buffer)
 told (Refused why) buffer = refused (numberOf why)
 
-abbrev pub ByMessage : Tables → Flags → Step
+abbrev pub ByMessage : Tables → Flags → ProgramStep
 ByMessage t f s m o buffer left = (r : Result) × (o ≡ told r buffer) × Enters (respond t f s m) r buffer left
 
 -- where `answer` may be called
@@ -108,7 +108,7 @@ pub record Taken (t : Tables) (s : Sent) (m : Memory) : Type 0 where
   pub has-room : room (s .limit) ≤ length (s .buffer)
   pub tables : valid t (length m) ≡ true
 
-abbrev pub ByAnswer : Tables → Flags → Step
+abbrev pub ByAnswer : Tables → Flags → ProgramStep
 ByAnswer t f s m o buffer left =
     Taken t s m × (n : ℕ) × (o ≡ replied (take n buffer)) × Answers (s .limit) (answer t f m (s .request) (s .limit)) (s .buffer) n buffer left
 

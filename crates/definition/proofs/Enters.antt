@@ -15,13 +15,13 @@ use Rattle.definition.specs.Valid.{valid}
 use Rattle.definition.specs.Answer.{answer}
 use Rattle.definition.specs.Entry.{refuse, lay, entry}
 
-pub data Enters (t : Tables) (f : Flags) (memory message : List ℕ) (limit : ℕ) (buffer : List ℕ) : Type 0 where
+pub data Ways (t : Tables) (f : Flags) (memory message : List ℕ) (limit : ℕ) (buffer : List ℕ) : Type 0 where
   stopped : (number : ℕ) → 0 < number → number ≤ 4 → entry t f memory message limit buffer ≡ refuse number buffer memory
-      → Enters t f memory message limit buffer
+      → Ways t f memory message limit buffer
   taken : length message ≤ 65535 → limit ≤ 65535 → room limit ≤ length buffer → valid t (length memory) ≡ true
-      → entry t f memory message limit buffer ≡ lay limit buffer (answer t f memory message limit) → Enters t f memory message limit buffer
+      → entry t f memory message limit buffer ≡ lay limit buffer (answer t f memory message limit) → Ways t f memory message limit buffer
 
-pub enters : (t : Tables) (f : Flags) (memory message : List ℕ) (limit : ℕ) (buffer : List ℕ) → Enters t f memory message limit buffer
+pub enters : (t : Tables) (f : Flags) (memory message : List ℕ) (limit : ℕ) (buffer : List ℕ) → Ways t f memory message limit buffer
 unfolding entry
 enters t f memory message limit buffer =
     by-test (ltb 65535 (length message)) (λ a. stopped 1 (omega arith) (omega arith) (rw a))

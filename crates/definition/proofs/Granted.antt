@@ -26,7 +26,7 @@ use Rattle.definition.specs.Read.{Asked, granted, notGranted, ask, askTa
 use Rattle.definition.specs.Answer.{capped, otherwise, onTarget, tagService, byService, byObject, plain, answer}
 use Rattle.definition.specs.Entry.{Entered}
 use Rattle.definition.specs.Promises.{Grants, Not-refused}
-use Rattle.definition.proofs.Enters.{Enters, stopped, taken, enters}
+use Rattle.definition.proofs.Enters.{Ways, stopped, taken, enters}
 use Rattle.definition.proofs.Replies.{isDone, Refuses, AskedWell, ask-well, TurnsWell, target-well}
 use Rattle.definition.proofs.Selected.{granted-some}
 use Rattle.definition.proofs.Theorems.{no-reply}
@@ -127,7 +127,7 @@ module _ (t : Tables) (f : Flags) (memory message : List ℕ) (limit : ℕ) (pat
 pub not-refused : Not-refused
 not-refused t f memory message limit buffer r path body is long first e = go (enters t f memory message limit buffer)
   where
-    go : Enters t f memory message limit buffer → ((getD r 2 0 ≡ 0x00) ⊎ (getD r 2 0 ≡ 0x06)) ↔ Grants t f path (u16At body 0)
+    go : Ways t f memory message limit buffer → ((getD r 2 0 ≡ 0x00) ⊎ (getD r 2 0 ≡ 0x06)) ↔ Grants t f path (u16At body 0)
     go (stopped k low high p) = no-reply _ k buffer memory r p e
     go (taken a b c d p) =
         let same : answer t f memory message limit .reply ≡ r = cc (ap (λ (x : Entered). x .outcome) p) in

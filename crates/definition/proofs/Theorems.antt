@@ -28,7 +28,7 @@ use Rattle.definition.specs.Envelope.{partAnswer}
 use Rattle.definition.specs.Answer.{isWrite, isRead, onTarget, tagService, partDispatch, answer}
 use Rattle.definition.specs.Entry.{Entered, replied, refuse, entry}
 use Rattle.definition.specs.Promises.{Refusal-changes-nothing, Reply-fits, Reply-has-a-status, Refused-write-changes-nothing, Part-is-answer, Masked-at-any-width, Element-sizes, Header-sizes}
-use Rattle.definition.proofs.Enters.{Enters, stopped, taken, enters}
+use Rattle.definition.proofs.Enters.{Ways, stopped, taken, enters}
 use Rattle.definition.proofs.Replies.{Proper, plain-all, proper-answer}
 
 -- a refusal is no reply
@@ -38,7 +38,7 @@ no-reply e number buffer memory r p q = absurd (let z : _≡_ {A = ℕ} 0 1 = cc
 pub refusal-changes-nothing : Refusal-changes-nothing
 refusal-changes-nothing t f memory message limit buffer number e = go (enters t f memory message limit buffer)
   where
-    go : Enters t f memory message limit buffer
+    go : Ways t f memory message limit buffer
         → (0 < number) × (number ≤ 4) × (entry t f memory message limit buffer .buffer ≡ buffer) × (entry t f memory message limit buffer .memory ≡ memory)
     go (stopped k low high p) =
         let same : k ≡ number = cc (ap (λ (x : Entered). x .outcome) p) in
@@ -50,7 +50,7 @@ proper : (t : Tables) (f : Flags) (memory message : List ℕ) (limit : ℕ) (buf
     → entry t f memory message limit buffer .outcome ≡ replied r → Proper limit r
 proper t f memory message limit buffer r e = go (enters t f memory message limit buffer)
   where
-    go : Enters t f memory message limit buffer → Proper limit r
+    go : Ways t f memory message limit buffer → Proper limit r
     go (stopped k low high p) = no-reply _ k buffer memory r p e
     go (taken a b c d p) =
         let same : answer t f memory message limit .reply ≡ r = cc (ap (λ (x : Entered). x .outcome) p) in
@@ -123,7 +123,7 @@ write-honest t f memory message limit w = go (requestOf message) refl (parsed me
 pub refused-write-changes-nothing : Refused-write-changes-nothing
 refused-write-changes-nothing t f memory message limit buffer r w e n = go (enters t f memory message limit buffer)
   where
-    go : Enters t f memory message limit buffer → entry t f memory message limit buffer .memory ≡ memory
+    go : Ways t f memory message limit buffer → entry t f memory message limit buffer .memory ≡ memory
     go (stopped k low high p) = ap (λ (x : Entered). x .memory) p
     go (taken a b c d p) =
         let same : answer t f memory message limit .reply ≡ r = cc (ap (λ (x : Entered). x .outcome) p) in

@@ -23,7 +23,7 @@ use Rattle.input.specs.declared.hex.Fault.the-variants.{TooLong, NoNumbe
 use Rattle.input.specs.declared.hex.Line.{Line}
 use Rattle.input.specs.declared.hex.Line.the-variants.{Empty, Request, Wrong}
 use Rattle.input.specs.Lines.{Parsed, ends, behind, isBlank, between, digitOf, isNumber, number, byteOf, faultOf, bytesIn, limitedBy, askedBy, parsed}
-use Rattle.input.specs.Lines.{Reads, isStop, Capped, tenfoldOf}
+use Rattle.input.specs.Lines.{ReadsLine, isStop, Capped, tenfoldOf}
 
 -- ---- characters
 
@@ -151,23 +151,23 @@ asked-over most x l t = rw t
 -- ---- the bytes
 
 -- n bytes are read into the request, and the text from `at` on goes on with them
-pub record Going (limit : ℕ) (text old : List ℕ) (start at n : ℕ) (request : List ℕ) : Type 0 where
+pub record Gathering (limit : ℕ) (text old : List ℕ) (start at n : ℕ) (request : List ℕ) : Type 0 where
   pub whole : bytesIn limit (length old) 0 (drop start text) ≡ behind (take n request) (bytesIn limit (length old) n (drop at text))
   pub rest : drop n request ≡ drop n old
   pub no-blank-here : at < length text → isBlank (getD text at 0) ≡ false
 
 pub going-start : (limit : ℕ) (text old : List ℕ) (start at : ℕ) → at ≡ start + length (stretch (isStop false) (drop start text))
-    → Going limit text old start at 0 old
+    → Gathering limit text old start at 0 old
 going-start limit text old start at e = record {
   whole = skip-to (bytesIn limit (length old) 0) (bytes-over limit (length old) 0) text start at e;
   rest = refl;
   no-blank-here = no-blank text start at e;
 }
 
-module _ (limit : ℕ) (text old : List ℕ) (start at n : ℕ) (request : List ℕ) (g : Going limit text old start at n request) where
+module _ (limit : ℕ) (text old : List ℕ) (start at n : ℕ) (request : List ℕ) (g : Gathering limit text old start at n request) where
   -- where the text from here on says what is asked, that is the answer
   answered : (x : Line) → bytesIn limit (length old) n (drop at text) ≡ ends x → n ≤ length old → length request ≡ length old
-      → Reads (bytesIn limit (length old) 0 (drop start text)) old x request
+      → ReadsLine (bytesIn limit (length old) 0 (drop start text)) old x request
   unfolding put
   answered x e h l =
       let w : bytesIn limit (length old) 0 (drop start text) ≡ record { asks = x; bytes = take n request } =
@@ -178,12 +178,12 @@ module _ (limit : ℕ) (text old : List ℕ) (start at n : ℕ) (request : List 
       })
 
   pub going-end : length text ≤ at → n ≤ length old → length request ≡ length old
-      → Reads (bytesIn limit (length old) 0 (drop start text)) old (Request limit n) request
+      → ReadsLine (bytesIn limit (length old) 0 (drop start text)) old (Request limit n) request
   unfolding bytesIn
   going-end h = answered (Request limit n) (rw (drop-of-length-le text h))
 
   pub going-odd : (f : Fault) (b : ℕ) → at < length text → length text - at < 2 → b ≡ byteOf (getD text at 0) 0x20 → f ≡ faultOf b → n ≤ length old
-      → length request ≡ length old → Reads (bytesIn limit (length old) 0 (drop start text)) old (Wrong f) request
+      → length request ≡ length old → ReadsLine (bytesIn limit (length old) 0 (drop start text)) old (Wrong f) request
   unfolding bytesIn
   going-odd f b h k e q =
       let one : drop at text ≡ getD text at 0 ∷ [] =
@@ -197,12 +197,12 @@ module _ (limit : ℕ) (text old : List ℕ) (start at n : ℕ) (request : List 
         drop-cons text at 0 h ∙ ap (λ (l : List ℕ). getD text at 0 ∷ l) (drop-cons text (suc at) 0 (omega arith) ∙ rw (m, ← add-one at))
 
     pub going-fault : (f : Fault) → 255 < b → f ≡ faultOf b → n ≤ length old → length request ≡ length old
-        → Reads (bytesIn limit (length old) 0 (drop start text)) old (Wrong f) request
+        → ReadsLine (bytesIn limit (length old) 0 (drop start text)) old (Wrong f) request
     unfolding bytesIn
     going-fault f o q = answered (Wrong f) (rw (two, g .no-blank-here h, ← e, lt-ltb 255 b o, q))
 
     pub going-full : b ≤ 255 → length old ≤ n → n ≤ length old → length request ≡ length old
-        → Reads (bytesIn limit (length old) 0 (drop start text)) old (Wrong TooLong) request
+        → ReadsLine (bytesIn limit (length old) 0 (drop start text)) old (Wrong TooLong) request
     unfolding bytesIn
     going-full o f = answered (Wrong TooLong) (rw (two, g .no-blank-here h, ← e, le-ltb 255 b o, le-leb (length old) n f))
 
@@ -212,7 +212,7 @@ module _ (limit : ℕ) (text old : List ℕ) (start at n : ℕ) (request : List 
     one-more o f = rw (two, g .no-blank-here h, ← e, le-ltb 255 b o, lt-leb (length old) n f)
 
     pub going-more : (r m : ℕ) → b ≤ 255 → n < length old → length request ≡ length old → m ≡ n + 1
-        → r ≡ at + 2 + length (stretch (isStop false) (drop (at + 2) text)) → Going limit text old start r m (set request n b)
+        → r ≡ at + 2 + length (stretch (isStop false) (drop (at + 2) text)) → Gathering limit text old start r m (set request n b)
     going-more r m o f l t s =
         let q : m ≡ suc n = omega arith in
         let skipped = skip-to (bytesIn limit (length old) (suc n)) (bytes-over limit (length old) (suc n)) text (at + 2) r s in
@@ -231,11 +231,11 @@ module _ (limit : ℕ) (text old : List ℕ) (start at n : ℕ) (request : List 
 
 -- ---- the line
 
-pub reads-as : {p q : Parsed} {old : List ℕ} {r : Line} {new : List ℕ} → q ≡ p → Reads p old r new → Reads q old r new
+pub reads-as : {p q : Parsed} {old : List ℕ} {r : Line} {new : List ℕ} → q ≡ p → ReadsLine p old r new → ReadsLine q old r new
 reads-as e s = rw e s
 
 -- nothing is read
-pub reads-none : {q : Parsed} {r : Line} (old : List ℕ) → q ≡ ends r → Reads q old r old
+pub reads-none : {q : Parsed} {r : Line} (old : List ℕ) → q ≡ ends r → ReadsLine q old r old
 reads-none old e = rw e (record { asks-is = refl; buffer-is = sym (put-none old 0) })
 
 module _ (most at end : ℕ) (text : List ℕ) (ends-at : end ≡ at + length (stretch isBlank (drop at text))) where
@@ -332,7 +332,7 @@ unfolding parsed
 kept most line = kept-asked most (upTo 0x23 line)
 
 -- what `parse` ensures of a line that asks a request: limit and bytes are those that the controller takes
-pub request-is : {limit n : ℕ} {old new : List ℕ} (line : List ℕ) (x : Line) → x ≡ Request limit n → Reads (parsed (length old) line) old x new
+pub request-is : {limit n : ℕ} {old new : List ℕ} (line : List ℕ) (x : Line) → x ≡ Request limit n → ReadsLine (parsed (length old) line) old x new
     → (limit ≤ 65535) × (n ≤ length old) × (n ≡ length (parsed (length old) line .bytes))
 request-is {old = old} line x e r =
     let k = subst (λ (y : Line). Kept (length old) 0 y (parsed (length old) line .bytes)) (sym (r .asks-is) ∙ e) (kept (length old) line) in

@@ -95,7 +95,7 @@ parsed most line = askedBy most (upTo 0x23 line)
 -- ---- what the code leaves
 
 -- the line asks this, and the bytes that were read stand at the buffer's start
-pub record Reads (p : Parsed) (old : List ℕ) (r : Line) (new : List ℕ) : Type 0 where
+pub record ReadsLine (p : Parsed) (old : List ℕ) (r : Line) (new : List ℕ) : Type 0 where
   pub asks-is : r ≡ p .asks
   pub buffer-is : new ≡ put old 0 (p .bytes)
 

@@ -4,7 +4,7 @@ ghost use Prim.Native.Nat.{_+_, _≤_};
 ghost use lib.ListN.{length, drop};
 ghost use Rattle.laws.specs.Tests.{stretch};
 ghost use Rattle.input.specs.Lines.{isBlank, isDecimal, digitOf, isNumber, number, byteOf, faultOf, bytesIn, limitedBy, askedBy, parsed};
-ghost use Rattle.input.specs.Lines.{isStop, tenfoldOf, Capped, Reads};
+ghost use Rattle.input.specs.Lines.{isStop, tenfoldOf, Capped, ReadsLine};
 
 /// The limit where a line names none.
 const USUAL_LIMIT: usize = 500;
@@ -145,7 +145,7 @@ fn fault_of(b: u16) -> Fault
 /// The bytes of the text from a position on, into the request's buffer.
 fn bytes(text: &[u8], start: usize, limit: usize, request: &mut [u8]) -> Line
     requires { ⌜ (start ≤ length (now text)) × (limit ≤ 65535) ⌝ }
-    ensures { λ r. ⌜ Reads (bytesIn limit (length (now (request .entry))) 0 (drop start (now (text .entry)))) (now (request .entry)) r
+    ensures { λ r. ⌜ ReadsLine (bytesIn limit (length (now (request .entry))) 0 (drop start (now (text .entry)))) (now (request .entry)) r
         (now (request .exit)) ⌝ }
 {
     let mut at = scan(text, start, false);
@@ -171,7 +171,7 @@ fn bytes(text: &[u8], start: usize, limit: usize, request: &mut [u8]) -> Line
 /// The text behind the `@` of a limit.
 fn limited(text: &[u8], at: usize, request: &mut [u8]) -> Line
     requires { ⌜ at ≤ length (now text) ⌝ }
-    ensures { λ r. ⌜ Reads (limitedBy (length (now (request .entry))) (drop at (now (text .entry)))) (now (request .entry)) r (now (request .exit)) ⌝ }
+    ensures { λ r. ⌜ ReadsLine (limitedBy (length (now (request .entry))) (drop at (now (text .entry)))) (now (request .entry)) r (now (request .exit)) ⌝ }
 {
     let end = scan(text, at, true);
     if !is_number(&text[at..end]) {
@@ -186,7 +186,7 @@ fn limited(text: &[u8], at: usize, request: &mut [u8]) -> Line
 
 /// The line up to its comment.
 fn asked(text: &[u8], request: &mut [u8]) -> Line
-    ensures { λ r. ⌜ Reads (askedBy (length (now (request .entry))) (now (text .entry))) (now (request .entry)) r (now (request .exit)) ⌝ }
+    ensures { λ r. ⌜ ReadsLine (askedBy (length (now (request .entry))) (now (text .entry))) (now (request .entry)) r (now (request .exit)) ⌝ }
 {
     let at = scan(text, 0, false);
     if at >= text.len() {
@@ -200,7 +200,7 @@ fn asked(text: &[u8], request: &mut [u8]) -> Line
 
 /// Reads a line; a request's bytes are put into the buffer.
 pub fn parse(line: &[u8], request: &mut [u8]) -> Line
-    ensures { λ r. ⌜ Reads (parsed (length (now (request .entry))) (now (line .entry))) (now (request .entry)) r (now (request .exit)) ⌝ }
+    ensures { λ r. ⌜ ReadsLine (parsed (length (now (request .entry))) (now (line .entry))) (now (request .entry)) r (now (request .exit)) ⌝ }
 {
     let end = crate::lines::find(line, 0, b'#');
     asked(&line[..end], request)

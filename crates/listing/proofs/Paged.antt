@@ -21,7 +21,7 @@ use Rattle.model.specs.Tables.{SomeValid, forPage}
 use Rattle.model.specs.declared.least.Next.{Next}
 use Rattle.model.specs.declared.least.Next.the-variants.{Tag, Other, Nothing}
 use Rattle.model.proofs.Due.{NextDue, none-due, tag-due, other-due, next-due}
-use Rattle.listing.specs.Entries.{made, Listable, TagMade, OtherMade, EntryStep, put-in, left-out, Stepped, more, full, done}
+use Rattle.listing.specs.Entries.{made, ListableRow, TagMade, OtherMade, EntryStep, put-in, left-out, Stepped, more, full, done}
 use Rattle.listing.specs.declared.entries.Symbol.{Symbol}
 use Rattle.listing.specs.declared.pages.Step.{Step}
 use Rattle.listing.specs.declared.pages.Step.the-variants.{Done}
@@ -108,7 +108,7 @@ module _ (structures tags others : List Row) (names tagNames : List ℕ) (scope 
     other-there i id q = other-inside (lent (w .rest)) scope bound [] i id (here (Other i id) q)
 
     -- its row makes a symbol
-    pub tag-listable : (i id : ℕ) → found ≡ Tag i id → Listable (getD tags i [])
+    pub tag-listable : (i id : ℕ) → found ≡ Tag i id → ListableRow (getD tags i [])
     tag-listable i id q =
         let t = lent (w .rest) in
         let h = tag-there i id q in

@@ -41,8 +41,8 @@ otherAttribute s a =
     (s .access ∷ [])))))
 
 -- what a tag's row has to be for its symbol: where the tables are valid it is
-abbrev pub Listable : (r : Row) → Type 0
-Listable r = (tagAccess r ≤ 3) × (0 < tagElements r)
+abbrev pub ListableRow : (r : Row) → Type 0
+ListableRow r = (tagAccess r ≤ 3) × (0 < tagElements r)
 
 -- a tag's row, its name aside, made a symbol
 abbrev pub TagMade : (structures : List Row) (r : Row) → Symbol → Type 0

@@ -17,7 +17,7 @@ ghost use Rattle.laws.specs.Pick.{pick};
 ghost use Rattle.definition.specs.Tables.{nonzero};
 ghost use Rattle.definition.specs.Lookup.{marked};
 ghost use Rattle.definition.specs.Symbols.{baseTag};
-ghost use Rattle.listing.specs.Entries.{Listable, TagMade, OtherMade};
+ghost use Rattle.listing.specs.Entries.{ListableRow, TagMade, OtherMade};
 
 /// Attribute 6 of a tag that is no alias.
 const BASE_TAG: u32 = 0x4000000;
@@ -55,7 +55,7 @@ fn low8(x: u32) -> u8
 
 /// A tag, whose access is at most 3 and which has elements, as where the tables are valid.
 pub fn tag_symbol(structures: &[[u32; 10]], row: &[u32; 12]) -> Symbol
-    requires { ⌜ Listable (now row) ⌝ }
+    requires { ⌜ ListableRow (now row) ⌝ }
     ensures { λ r. ⌜ TagMade (now (structures .entry)) (now (row .entry)) r ⌝ }
 {
     let own = [row[TAG_LENGTH_1], row[TAG_LENGTH_2], row[TAG_LENGTH_3]];

@@ -15,14 +15,14 @@ numberOf LimitTooLarge = 2
 numberOf BufferTooShort = 3
 numberOf TablesInvalid = 4
 
-abbrev pub Says : Outcome → Defined → Type 0
-Says (Reply n) (replied bytes) = n ≡ length bytes
-Says (Reply n) (refused number) = ⊥
-Says (Refused why) (replied bytes) = ⊥
-Says (Refused why) (refused number) = numberOf why ≡ number
+abbrev pub IsOutcome : Outcome → Defined → Type 0
+IsOutcome (Reply n) (replied bytes) = n ≡ length bytes
+IsOutcome (Reply n) (refused number) = ⊥
+IsOutcome (Refused why) (replied bytes) = ⊥
+IsOutcome (Refused why) (refused number) = numberOf why ≡ number
 
 -- outcome, every byte of the reply buffer and every byte of tag memory are the definition's
 pub record Enters (e : Entered) (r : Outcome) (buffer memory : List ℕ) : Type 0 where
-  pub outcome-is : Says r (e .outcome)
+  pub outcome-is : IsOutcome r (e .outcome)
   pub buffer-is : buffer ≡ e .buffer
   pub memory-is : memory ≡ e .memory

@@ -15,15 +15,15 @@ use Rattle.path.proofs.Segments.{segment-next, segment-bad, segment-end
 use Rattle.path.proofs.Laws.{one, check-start}
 
 -- the segments from here on, counted from k, are the path's; no segment is empty, so there are no more of them than bytes
-pub record Going (path : List ℕ) (at k : ℕ) : Type 0 where
+pub record Counting (path : List ℕ) (at k : ℕ) : Type 0 where
   pub below : k ≤ at
   pub same : over one Segments Bad k (segmentsFrom path at) ≡ checkOf path
 
 module _ (path : List ℕ) where
-  pub going-start : Going path 0 0
+  pub going-start : Counting path 0 0
   going-start = record { below = zero-le; same = check-start path }
 
-  module _ (at k : ℕ) (g : Going path at k) where
+  module _ (at k : ℕ) (g : Counting path at k) where
     pub going-end : length path ≤ at → Segments k ≡ checkOf path
     going-end h = segment-end one Segments Bad (checkOf path) path k at (g .same) (Segments k) h refl
 
@@ -31,7 +31,7 @@ module _ (path : List ℕ) where
       pub going-bad : at < length path → n ≡ 0 → Bad ≡ checkOf path
       going-bad h z = segment-bad one Segments Bad (checkOf path) path k at (g .same) r n Bad h (d .is) e z refl
 
-      pub going-next : (n ≡ 0 → ⊥) → Going path n (k + 1)
+      pub going-next : (n ≡ 0 → ⊥) → Counting path n (k + 1)
       going-next z = record {
         below = count-to k at n (g .below) (segment-after path at r n (d .is) e z);
         same = segment-next one Segments Bad (checkOf path) path k at (g .same) r n (k + 1) (d .is) e z refl;

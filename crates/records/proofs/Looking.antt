@@ -29,18 +29,18 @@ module _ (p : Row → Bool) (tags : List Tag) where
   Sought = scan p some none 0 (rowsOf tags)
 
   -- no record before the i-th passes the test
-  abbrev pub Seeking : ℕ → Type 0
-  Seeking i = scan p some none i (drop i (rowsOf tags)) ≡ Sought
+  abbrev pub Searching : ℕ → Type 0
+  Searching i = scan p some none i (drop i (rowsOf tags)) ≡ Sought
 
-  pub seek-start : Seeking 0
+  pub seek-start : Searching 0
   seek-start = refl
 
-  module _ (i : ℕ) (here : Seeking i) where
+  module _ (i : ℕ) (here : Searching i) where
     module _ (inside : i < length tags) (b : Bool) (tested : b ≡ p (rowOf (tagAt tags i))) where
       in-rows : i < length (rowsOf tags)
       in-rows = omega (arith, inside, rows-count tags)
 
-      pub seek-next : Holds (not b) → Seeking (i + 1)
+      pub seek-next : Holds (not b) → Searching (i + 1)
       seek-next h = scan-next p some none (rowOf noTag) i (rowsOf tags) here in-rows (tested ∙ ap p (rows-at tags i)) (off b h) refl
 
       pub seek-found : (r : Lookup) → Holds b → r ≡ foundAs i (tagAt tags i) → r ≡ lookupOf tags Sought
@@ -56,7 +56,7 @@ module _ (p : Row → Bool) (tags : List Tag) where
 -- where a search is: the next record, and that none before it passes
 pub record Search (p : Row → Bool) (tags : List Tag) : Type 0 where
   pub i : ℕ
-  pub going : Seeking p tags i
+  pub going : Searching p tags i
 
 -- no record is looked at yet; the i-th does not pass
 abbrev pub begins : (p : Row → Bool) (tags : List Tag) → Search p tags

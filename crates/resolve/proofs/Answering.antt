@@ -40,7 +40,7 @@ use Rattle.resolve.specs.Paths.{left}
 use Rattle.resolve.specs.Places.{placeOf, movedOf, openLengths, onWalk}
 use Rattle.resolve.specs.Starts.{StartInside, BeginsPath}
 use Rattle.resolve.specs.Steps.{Standing, walked}
-use Rattle.resolve.specs.Answers.{FoundAs, Answers, Resolves, Targets, Aims, wholeRow, closedTo, deniedTo, refusedTo}
+use Rattle.resolve.specs.Answers.{FoundAs, ResolvesTo, Resolves, Targets, Aims, wholeRow, closedTo, deniedTo, refusedTo}
 use Rattle.resolve.proofs.Lefts.{left-whole, some-left}
 use Rattle.resolve.proofs.Stepping.{memory-small, programs-few, walk-bare}
 
@@ -100,8 +100,8 @@ module _ (structures members programs tags : List Row) (names tagNames : List �
   abbrev lent : Tables → Tables
   lent = forPath structures members programs tags names tagNames
 
-  of-left : (x : Resolved) → Whatever lent (λ t. Answers structures (resolve t f (left path 0)) x) → Result x
-  of-left x h = record { is = λ o l s. subst (λ k. Answers structures (resolve (lent o) f k) x) (left-whole path l s) (h o) }
+  of-left : (x : Resolved) → Whatever lent (λ t. ResolvesTo structures (resolve t f (left path 0)) x) → Result x
+  of-left x h = record { is = λ o l s. subst (λ k. ResolvesTo structures (resolve (lent o) f k) x) (left-whole path l s) (h o) }
 
   pub resolve-start : (s : Status) → r ≡ start.Turned s → Result (Turned s)
   resolve-start s e =
@@ -126,17 +126,17 @@ module _ (structures members programs tags : List Row) (names tagNames : List �
           sym (rw e at (begun .is t)) ∙ walk-bare structures members names t f (moves (left path next)) (wholeTag t i)
           ∙ ap (walk (onWalk structures members names) f (moves (left path next))) (sym whole) ∙ sym walks
 
-      pub resolve-moved : (x : Resolved) → Answers structures (movedOf m) x → Result x
+      pub resolve-moved : (x : Resolved) → ResolvesTo structures (movedOf m) x → Result x
       resolve-moved x a = of-left x (λ o. rw (resolve-is o) a)
 
 pub ruleset resolves = (resolve-start, resolve-moved)
 
 -- the answer that a walk comes to
 module _ (structures : List Row) (m : Moved) where
-  pub answer-turned : (s : Status) → m .turn ≡ turn.Turned s → Answers structures (movedOf m) (Turned s)
+  pub answer-turned : (s : Status) → m .turn ≡ turn.Turned s → ResolvesTo structures (movedOf m) (Turned s)
   answer-turned s e = rw e
 
-  pub answer-found : (target : Target) → m .turn ≡ turn.Made → Aims structures (m .place) target → Answers structures (movedOf m) (Found target)
+  pub answer-found : (target : Target) → m .turn ≡ turn.Made → Aims structures (m .place) target → ResolvesTo structures (movedOf m) (Found target)
   answer-found target e a = record { lengths = openLengths (m .place .lengths); is = rw e (ap found (sym (a .is))); size-is = a .size-is }
 
 pub ruleset answers = (answer-turned, answer-found)
@@ -209,8 +209,8 @@ module _ (structures members programs tags : List Row) (names tagNames path : Li
   unfolding tagTarget
   target-turned s e = record {
     is = λ o l k.
-        let a : Answers structures (resolve (forPath structures members programs tags names tagNames o) f l) (Turned s) =
-        subst (Answers structures _) e (resolved .is o l k) in
+        let a : ResolvesTo structures (resolve (forPath structures members programs tags names tagNames o) f l) (Turned s) =
+        subst (ResolvesTo structures _) e (resolved .is o l k) in
         rw a;
   }
 
@@ -220,12 +220,12 @@ module _ (structures members programs tags : List Row) (names tagNames path : Li
     asked = forPath structures members programs tags names tagNames o
 
     found-as : FoundAs structures (resolve asked f l) g
-    found-as = subst (Answers structures _) e (resolved .is o l k)
+    found-as = subst (ResolvesTo structures _) e (resolved .is o l k)
 
     denied-to : (lengths : List ℕ) → isDenied asked f writes (targetOf g lengths) ≡ b
     denied-to lengths = sym (denied-is asked f writes (targetOf g lengths)) ∙ sym tested
 
-    denied-as : b ≡ true → Answers structures (tagTarget asked f writes l) (Turned Denied)
+    denied-as : b ≡ true → ResolvesTo structures (tagTarget asked f writes l) (Turned Denied)
     unfolding tagTarget permitted
     denied-as on = let n = denied-to (found-as .lengths) ∙ on in rw (found-as .is, n)
 

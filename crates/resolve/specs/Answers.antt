@@ -26,20 +26,20 @@ pub record FoundAs (structures : List Row) (d : DefinedResolved) (g : Target) : 
   pub is : d ≡ found (targetOf g lengths)
   pub size-is : g .size ≡ sizeIn structures (g .ty)
 
-abbrev pub Answers : (structures : List Row) → DefinedResolved → Resolved → Type 0
-Answers structures d (Found g) = FoundAs structures d g
-Answers structures d (Turned s) = d ≡ turned (statusOf s)
+abbrev pub ResolvesTo : (structures : List Row) → DefinedResolved → Resolved → Type 0
+ResolvesTo structures d (Found g) = FoundAs structures d g
+ResolvesTo structures d (Turned s) = d ≡ turned (statusOf s)
 
 -- the path's segments come to this
 pub record Resolves (structures members programs tags : List Row) (names tagNames : List ℕ) (f : Flags) (path : List ℕ) (r : Resolved) : Type 0 where
   pub is : Whatever (forPath structures members programs tags names tagNames)
-      (λ t. (l : List Segment) → segments path ≡ some l → Answers structures (resolve t f l) r)
+      (λ t. (l : List Segment) → segments path ≡ some l → ResolvesTo structures (resolve t f l) r)
 
 -- the same for a service that writes or does not
 pub record Targets (structures members programs tags : List Row) (names tagNames : List ℕ) (f : Flags) (writes : Bool) (path : List ℕ)
     (r : Resolved) : Type 0 where
   pub is : Whatever (forPath structures members programs tags names tagNames)
-      (λ t. (l : List Segment) → segments path ≡ some l → Answers structures (tagTarget t f writes l) r)
+      (λ t. (l : List Segment) → segments path ≡ some l → ResolvesTo structures (tagTarget t f writes l) r)
 
 -- a place as a target
 pub record Aims (structures : List Row) (g : Place) (r : Target) : Type 0 where

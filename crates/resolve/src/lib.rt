@@ -26,7 +26,7 @@ ghost use Rattle.definition.specs.Segment.{segments};
 ghost use Rattle.definition.specs.Tables.{tagElements};
 ghost use Rattle.model.specs.Tables.{SomeValid, forPath, flagsOf};
 ghost use Rattle.resolve.specs.Places.{placeOf, movedOf};
-ghost use Rattle.resolve.specs.Answers.{Answers, Resolves, Targets, Aims, wholeRow, closedTo, deniedTo, refusedTo};
+ghost use Rattle.resolve.specs.Answers.{ResolvesTo, Resolves, Targets, Aims, wholeRow, closedTo, deniedTo, refusedTo};
 
 /// A tag path's target, or the status that turns it away.
 pub enum Resolved {
@@ -69,7 +69,7 @@ fn aim(structures: &[[u32; 10]], g: Place) -> Target
 
 /// The answer that a walk along a path comes to.
 fn answer(structures: &[[u32; 10]], moved: Moved) -> Resolved
-    ensures { λ r. ⌜ Answers (now (structures .entry)) (movedOf moved) r ⌝ }
+    ensures { λ r. ⌜ ResolvesTo (now (structures .entry)) (movedOf moved) r ⌝ }
 {
     let turn = moved.turn;
     match turn {

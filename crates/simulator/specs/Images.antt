@@ -21,8 +21,8 @@ FlagsIn word f =
     × (f .«aoi_locals_refused» ≡ eqb (word / 4 % 2) 1) × (f .micro800 ≡ eqb (word / 8 % 2) 1)
 
 -- no count above what T1 allows
-abbrev pub Few : Head → Type 0
-Few h =
+abbrev pub SmallHead : Head → Type 0
+SmallHead h =
     (h .structures ≤ 64) × (h .members ≤ 512) × (h .programs ≤ 16) × (h .tags ≤ 1024) × (h .others ≤ 64)
     × (h .names ≤ 26240) × (h .«tag_names» ≤ 40960) × (h .templates ≤ 65536) × (h .memory ≤ 65536)
 

@@ -5,7 +5,7 @@ ghost use Prim.Native.Nat.{_+_, _%_, _≤_};
 ghost use lib.Dec.{eqb};
 ghost use lib.ListN.{length};
 ghost use Rattle.definition.specs.Bytes.{u32At};
-ghost use Rattle.simulator.specs.Images.{HeadIn, FlagsIn, Few, rowsSize, storesSize, imageSize};
+ghost use Rattle.simulator.specs.Images.{HeadIn, FlagsIn, SmallHead, rowsSize, storesSize, imageSize};
 use crate::say;
 use crate::session;
 use input::image_rows;
@@ -86,7 +86,7 @@ fn over(n: usize, what: &[u8], most: usize) -> bool
 
 /// Whether no count is above what T1 allows.
 fn few(h: Head) -> bool
-    ensures { λ r. ⌜ (r ≡ true → Few h) ⌝ }
+    ensures { λ r. ⌜ (r ≡ true → SmallHead h) ⌝ }
 {
     if over(h.structures, b"structures", 64) {
         return false;
@@ -117,14 +117,14 @@ fn few(h: Head) -> bool
 
 /// The bytes of the head and the rows.
 fn rows_size(h: Head) -> usize
-    requires { ⌜ Few h ⌝ }
+    requires { ⌜ SmallHead h ⌝ }
     ensures { λ r. ⌜ r ≡ rowsSize h ⌝ }
 {
     48 + 40 * h.structures + 36 * h.members + 8 * h.programs + 48 * h.tags + 20 * h.others
 }
 
 fn size(h: Head) -> usize
-    requires { ⌜ Few h ⌝ }
+    requires { ⌜ SmallHead h ⌝ }
     ensures { λ r. ⌜ r ≡ imageSize h ⌝ }
 {
     rows_size(h) + h.names + h.tag_names + h.templates + h.memory
@@ -158,7 +158,7 @@ fn open_with(
     others: &[[u32; 5]],
     o: Options,
 )
-    requires { ⌜ (Few h) × (length (now stores) ≡ storesSize h) ⌝ }
+    requires { ⌜ (SmallHead h) × (length (now stores) ≡ storesSize h) ⌝ }
 {
     let a = h.names;
     let b = a + h.tag_names;
@@ -183,7 +183,7 @@ fn open_with(
 
 /// The tables of a whole image.
 fn load(h: Head, image: &[u8], options: Options)
-    requires { ⌜ (Few h) × (length (now image) ≡ imageSize h) ⌝ }
+    requires { ⌜ (SmallHead h) × (length (now image) ≡ imageSize h) ⌝ }
 {
     let n = h.structures;
     let structures = image_rows::structures(image, 48, n);

@@ -23,12 +23,12 @@ use Rattle.definition.specs.Tables.{Row, tagScope, tagName, tagId, tagOffset, o
 use Rattle.definition.specs.Valid.{tagNamesDiffer, otherNamesDiffer, programNamesDiffer, idsDiffer, endIn, apart}
 use Rattle.rows.specs.Judged.{tagPair, tagOther, pairsJudged}
 use Rattle.spread.specs.Spread.{Apart}
-use Rattle.spread.specs.Keys.{Filled, mixed, nameKey, tagKey, otherKey, tagFirst, tagLast, otherFirst, idKey, idLast, ofSymbol, symbolsJudged}
+use Rattle.spread.specs.Keys.{KeysFilled, mixed, nameKey, tagKey, otherKey, tagFirst, tagLast, otherFirst, idKey, idLast, ofSymbol, symbolsJudged}
 use Rattle.rows.proofs.Regrouped.{tag-pairs, tags-and-others}
 
 -- ---- a list that is written from its start
 
-pub filled-next : (f : ℕ → ℕ) (xs ys : List ℕ) (v i j : ℕ) → Filled xs f i → i < length xs → ys ≡ set xs i v → v ≡ f i → j ≡ i + 1 → Filled ys f j
+pub filled-next : (f : ℕ → ℕ) (xs ys : List ℕ) (v i j : ℕ) → KeysFilled xs f i → i < length xs → ys ≡ set xs i v → v ≡ f i → j ≡ i + 1 → KeysFilled ys f j
 filled-next f xs ys v i j here h e q t k l =
     by-test (eqb k i) (λ s. rw (e, eqb-true k i s, getD-set-same xs i v 0 h) q)
     (λ s. let z : k ≢ i = eqb-false k i s in rw (e, getD-set-other xs i k v 0 z) (here k (omega arith)))
@@ -55,7 +55,7 @@ unfolding ofSymbol
 other-of F G tags others j = rw (le-ltb (length tags + j) (length tags) (omega arith), add-sub-cancel-left)
 
 module _ (F F′ G G′ : Row → ℕ) (tags others : List Row) (lo hi : List ℕ)
-    (low : Filled lo (ofSymbol F G tags others) (length tags + length others)) (high : Filled hi (ofSymbol F′ G′ tags others) (length tags + length others))
+    (low : KeysFilled lo (ofSymbol F G tags others) (length tags + length others)) (high : KeysFilled hi (ofSymbol F′ G′ tags others) (length tags + length others))
     (far : Apart lo hi (length tags + length others)) where
   at : (i j : ℕ) → i < j → j < length tags + length others
       → either (leb (ofSymbol F′ G′ tags others i) (ofSymbol F G tags others j)) (leb (ofSymbol F′ G′ tags others j) (ofSymbol F G tags others i)) ≡ true
@@ -135,16 +135,16 @@ ids a b e =
 -- ---- from spans that keep apart to the tests
 
 module _ (tags others : List Row) (lo hi : List ℕ) where
-  pub names-far : (tagNames names : List ℕ) → Filled lo (ofSymbol (tagFirst tagNames) (otherFirst names) tags others) (length tags + length others)
-      → Filled hi (ofSymbol (tagLast tagNames) (otherFirst names) tags others) (length tags + length others) → Apart lo hi (length tags + length others)
+  pub names-far : (tagNames names : List ℕ) → KeysFilled lo (ofSymbol (tagFirst tagNames) (otherFirst names) tags others) (length tags + length others)
+      → KeysFilled hi (ofSymbol (tagLast tagNames) (otherFirst names) tags others) (length tags + length others) → Apart lo hi (length tags + length others)
       → (pairs (tagNamesDiffer tagNames) tags ≡ true) × (every (λ a. every (otherNamesDiffer tagNames names a) others) tags ≡ true)
   names-far tagNames names low high far = (
     tags-clear (tagFirst tagNames) (tagLast tagNames) (otherFirst names) (otherFirst names) tags others lo hi low high far _ (tag-names tagNames),
     both-clear (tagFirst tagNames) (tagLast tagNames) (otherFirst names) (otherFirst names) tags others lo hi low high far _ (other-names tagNames names),
   )
 
-  pub ids-far : Filled lo (ofSymbol idKey idKey tags others) (length tags + length others)
-      → Filled hi (ofSymbol idLast idLast tags others) (length tags + length others) → Apart lo hi (length tags + length others)
+  pub ids-far : KeysFilled lo (ofSymbol idKey idKey tags others) (length tags + length others)
+      → KeysFilled hi (ofSymbol idLast idLast tags others) (length tags + length others) → Apart lo hi (length tags + length others)
       → (pairs idsDiffer tags ≡ true) × (every (λ a. every (idsDiffer a) others) tags ≡ true) × (pairs idsDiffer others ≡ true)
   ids-far low high far = (
     tags-clear idKey idLast idKey idLast tags others lo hi low high far _ ids,
@@ -152,8 +152,8 @@ module _ (tags others : List Row) (lo hi : List ℕ) where
     others-clear idKey idLast idKey idLast tags others lo hi low high far _ ids,
   )
 
-pub bytes-far : (structures tags : List Row) (lo hi : List ℕ) → Filled lo (λ k. tagOffset (getD tags k [])) (length tags)
-    → Filled hi (λ k. endIn structures (getD tags k [])) (length tags) → Apart lo hi (length tags) → pairs (apart structures) tags ≡ true
+pub bytes-far : (structures tags : List Row) (lo hi : List ℕ) → KeysFilled lo (λ k. tagOffset (getD tags k [])) (length tags)
+    → KeysFilled hi (λ k. endIn structures (getD tags k [])) (length tags) → Apart lo hi (length tags) → pairs (apart structures) tags ≡ true
 unfolding apart
 bytes-far structures tags lo hi low high far =
     pairs-by (apart structures) [] tags (λ i j h l. rw (high i (omega arith), high j l, low i (omega arith), low j l) at (far i j h l))

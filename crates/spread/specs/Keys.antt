@@ -14,8 +14,8 @@ use Rattle.definition.specs.Valid.{idsDiffer}
 use Rattle.rows.specs.Judged.{tagPair, tagOther}
 
 -- a list's first n elements by their index
-abbrev pub Filled : List ℕ → (ℕ → ℕ) → ℕ → Type 0
-Filled xs f n = (k : ℕ) → k < n → getD xs k 0 ≡ f k
+abbrev pub KeysFilled : List ℕ → (ℕ → ℕ) → ℕ → Type 0
+KeysFilled xs f n = (k : ℕ) → k < n → getD xs k 0 ≡ f k
 
 -- ---- names: a number below 2^47 of a scope and a name, the same for names that agree
 

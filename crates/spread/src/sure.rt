@@ -20,7 +20,7 @@ ghost use Rattle.laws.specs.Tests.{every, pairs};
 ghost use Rattle.definition.specs.Names.{lower};
 ghost use Rattle.definition.specs.Tables.{tagOffset};
 ghost use Rattle.definition.specs.Valid.{tagNamesDiffer, otherNamesDiffer, idsDiffer, endIn, apart};
-ghost use Rattle.spread.specs.Keys.{Filled, mixed, nameKey, tagKey, otherKey, tagFirst, tagLast, otherFirst, idKey, idLast, ofSymbol, symbolsJudged};
+ghost use Rattle.spread.specs.Keys.{KeysFilled, mixed, nameKey, tagKey, otherKey, tagFirst, tagLast, otherFirst, idKey, idLast, ofSymbol, symbolsJudged};
 
 /// Below this many tags comparing each two takes less time than sorting.
 const FEW: usize = 40;
@@ -136,9 +136,9 @@ fn name_spans(
     hi: &mut [usize; 1088],
 )
     requires { ⌜ (length (now tags) + length (now others) ≤ 1088) × (length (now lo) ≡ 1088) × (length (now hi) ≡ 1088) ⌝ }
-    ensures { λ r. ⌜ Filled (now (lo .exit)) (ofSymbol (tagFirst (now («tag_names» .entry))) (otherFirst (now (names .entry))) (now (tags .entry))
+    ensures { λ r. ⌜ KeysFilled (now (lo .exit)) (ofSymbol (tagFirst (now («tag_names» .entry))) (otherFirst (now (names .entry))) (now (tags .entry))
         (now (others .entry))) (length (now (tags .entry)) + length (now (others .entry)))
-        × Filled (now (hi .exit)) (ofSymbol (tagLast (now («tag_names» .entry))) (otherFirst (now (names .entry))) (now (tags .entry))
+        × KeysFilled (now (hi .exit)) (ofSymbol (tagLast (now («tag_names» .entry))) (otherFirst (now (names .entry))) (now (tags .entry))
         (now (others .entry))) (length (now (tags .entry)) + length (now (others .entry))) ⌝ }
 {
     let n = tags.len() + others.len();
@@ -153,8 +153,8 @@ fn name_spans(
 
 fn id_spans(tags: &[[u32; 12]], others: &[[u32; 5]], lo: &mut [usize; 1088], hi: &mut [usize; 1088])
     requires { ⌜ (length (now tags) + length (now others) ≤ 1088) × (length (now lo) ≡ 1088) × (length (now hi) ≡ 1088) ⌝ }
-    ensures { λ r. ⌜ Filled (now (lo .exit)) (ofSymbol idKey idKey (now (tags .entry)) (now (others .entry)))
-        (length (now (tags .entry)) + length (now (others .entry))) × Filled (now (hi .exit))
+    ensures { λ r. ⌜ KeysFilled (now (lo .exit)) (ofSymbol idKey idKey (now (tags .entry)) (now (others .entry)))
+        (length (now (tags .entry)) + length (now (others .entry))) × KeysFilled (now (hi .exit))
         (ofSymbol idLast idLast (now (tags .entry)) (now (others .entry))) (length (now (tags .entry)) + length (now (others .entry))) ⌝ }
 {
     let n = tags.len() + others.len();
@@ -174,8 +174,8 @@ fn byte_spans(
     hi: &mut [usize; 1088],
 )
     requires { ⌜ (length (now tags) ≤ 1088) × (length (now lo) ≡ 1088) × (length (now hi) ≡ 1088) ⌝ }
-    ensures { λ r. ⌜ Filled (now (lo .exit)) (λ k. tagOffset (getD (now (tags .entry)) k [])) (length (now (tags .entry)))
-        × Filled (now (hi .exit)) (λ k. endIn (now (structures .entry)) (getD (now (tags .entry)) k [])) (length (now (tags .entry))) ⌝ }
+    ensures { λ r. ⌜ KeysFilled (now (lo .exit)) (λ k. tagOffset (getD (now (tags .entry)) k [])) (length (now (tags .entry)))
+        × KeysFilled (now (hi .exit)) (λ k. endIn (now (structures .entry)) (getD (now (tags .entry)) k [])) (length (now (tags .entry))) ⌝ }
 {
     let mut i = 0;
     while i < tags.len() {

@@ -70,6 +70,7 @@ abbrev symbols : List ℕ
 symbols = 1 ∷ 0 ∷ 0 ∷ 0 ∷ 0xC4 ∷ 0x00 ∷ 2 ∷ 0 ∷ 0 ∷ 0 ∷ 0xC4 ∷ 0x20 ∷ 0xFF ∷ 0xFF ∷ 0xFF ∷ 0xFF ∷ 0x00 ∷ 0x81 ∷ []
 
 list-outcomes : List Received
+unfolding scopeOf entriesOf scopePath listPath listRequest longest until wordIn statusIn wholeOfList wholeList
 list-outcomes =
     whole-list [] types 10 10 20
     ∷ whole-list [] types 100 100 18
@@ -99,5 +100,5 @@ lists-expected =
     ∷ []
 
 whole-lists : list-outcomes ≡ lists-expected
-unfolding list-outcomes lists-expected compute pallet palletFlags palletMemory palletStart upFrom scopeOf entriesOf scopePath listPath listRequest longest until wordIn statusIn wholeOfList wholeList
+unfolding list-outcomes lists-expected compute pallet palletFlags palletMemory palletStart upFrom
 whole-lists = refl

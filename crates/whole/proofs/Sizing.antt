@@ -24,7 +24,7 @@ use Rattle.path.specs.declared.Check.{Check}
 use Rattle.path.specs.declared.Check.the-variants.{Segments, Bad}
 use Rattle.model.specs.Tables.{tablesOf, targetOf, Aimed}
 use Rattle.model.specs.declared.Target.{Target}
-use Rattle.resolve.specs.Answers.{Answers, FoundAs, Targets}
+use Rattle.resolve.specs.Answers.{ResolvesTo, FoundAs, Targets}
 use Rattle.resolve.proofs.Answering.{found-aimed}
 use Rattle.resolve.specs.declared.Resolved.{Resolved}
 use Rattle.resolve.specs.declared.Resolved.the-variants.{Found, Turned}
@@ -125,7 +125,7 @@ module _ (structures members programs tags others : List Row) (names tagNames te
   unfolding sizedOf
   size-turned s e =
       size-target tables f memory path elements c checked n decodes b tests Nothing tag
-      (λ l d. let a : Answers structures (tagTarget tables f false l) (Turned s) = subst (Answers structures _) e (resolved .is tables l d) in
+      (λ l d. let a : ResolvesTo structures (tagTarget tables f false l) (Turned s) = subst (ResolvesTo structures _) e (resolved .is tables l d) in
       rw a refl)
 
   module _ (g : Target) (e : r ≡ Found g) (ok : valid tables (length memory) ≡ true) where
@@ -139,5 +139,5 @@ module _ (structures members programs tags others : List Row) (names tagNames te
     unfolding ask selection
     size-found count v k sized =
         size-target tables f memory path elements c checked n decodes b tests v tag
-        (λ l d. let a : FoundAs structures (tagTarget tables f false l) g = subst (Answers structures _) e (resolved .is tables l d) in
+        (λ l d. let a : FoundAs structures (tagTarget tables f false l) g = subst (ResolvesTo structures _) e (resolved .is tables l d) in
         rw (a .is) (sized ∙ rw k (target-size structures memory g elements size-aimed)))

@@ -2,14 +2,14 @@
 use Prim.Native.Nat.{_≤_, _-_}
 use mathlib.Core.Path.{_≡_, refl}
 use lib.ListN.{length, length-set}
-use Rattle.input.proofs.Parsing.{Going, going-start, going-end, going-odd, going-fault, going-full, going-more}
+use Rattle.input.proofs.Parsing.{Gathering, going-start, going-end, going-odd, going-fault, going-full, going-more}
 use borrow.Author.Needs.{needs}
 use Rattle.input.proofs.hex.bytes.Statement.{statement}
 use Rattle.input.proofs.hex.bytes.Tie as tie
 
 abbrev Inv-loop : tie.InvT-loop
 Inv-loop text start limit request₀ at₀ n₀ request at n =
-    (at ≤ length text) × (n ≤ length request₀) × (length request ≡ length request₀) × Going limit text request₀ start at
+    (at ≤ length text) × (n ≤ length request₀) × (length request ≡ length request₀) × Gathering limit text request₀ start at
     n request
 
 abbrev μ-loop : tie.MeasureT-loop

@@ -59,7 +59,7 @@ use Rattle.path.proofs.Callees.{New, Moved, NextOf, Seg, NewSaid, Moved
 use Rattle.path.proofs.Callees.{at-fits, reader-twice, to-new, goes-new, new-told, to-segment, goes-segment}
 use Rattle.path.proofs.Callees.{segment-told, to-next-of, goes-next-of, next-of-told, to-moved, goes-moved}
 use Rattle.path.proofs.Callees.{moved-told}
-use Rattle.path.proofs.Counts.{Going, going-start, going-end, going-bad, going-next, going-less}
+use Rattle.path.proofs.Counts.{Counting, going-start, going-end, going-bad, going-next, going-less}
 use Rattle.path.proofs.Thin.{B, Of, to-thin, goes-thin, thin-told}
 use Rattle.path.proofs.Check as K
 use Rattle.path.proofs.Check.Laws as K′
@@ -126,7 +126,7 @@ record State (κ : Lft) (s : RefT (List ℕ)) : Type 0 where
   is : Is (B (κ, tt)) reader (mach ∷ [])
   same : reader .path ≡ s
   count : ℕ
-  going : Going (now s) (reader .at) count
+  going : Counting (now s) (reader .at) count
 
 module _ {M : Type 1} (𝓤 : URA M) (H : Heap 𝓤) (A : Atoms 𝓤) (W : Given 𝓤 H A) (mem : Memory → SProp 𝓤) (run : Routine → Fun 𝓤) (κ : Lft) (q : Share)
     (s : RefT (List ℕ)) (path-is : Is (ShrSlice (named 0) κ u8) s (sliceVal (s .ptr) (length (s .now)) ∷ [])) where
@@ -201,7 +201,7 @@ module _ {M : Type 1} (𝓤 : URA M) (H : Heap 𝓤) (A : Atoms 𝓤) (W : Given
     same = e .0;
     count = 0;
     going =
-        subst (λ (n : ℕ). Going (now s) n 0) (sym (e .1)) (going-start (now s));
+        subst (λ (n : ℕ). Counting (now s) n 0) (sym (e .1)) (going-start (now s));
   }
 
   -- what is said of the reader's own path, said of the path
@@ -222,7 +222,7 @@ module _ {M : Type 1} (𝓤 : URA M) (H : Heap 𝓤) (A : Atoms 𝓤) (W : Given
     is = is;
     same = m .0 ∙ x .same;
     count = x .count + 1;
-    going = subst (λ (k : ℕ). Going (now s) k (x .count + 1)) (sym (m .1)) (going-next (now s) (x .reader .at) (x .count) (x .going) t n d e z);
+    going = subst (λ (k : ℕ). Counting (now s) k (x .count + 1)) (sym (m .1)) (going-next (now s) (x .reader .at) (x .count) (x .going) t n d e z);
   }
 
   nearer : (x : St) (t : Segment) (n : ℕ) (d : Decoded (now s) (x .reader .at) t) (e : n ≡ nextAfter t) (z : n ≡ 0 → ⊥)

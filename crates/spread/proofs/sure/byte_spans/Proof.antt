@@ -7,7 +7,7 @@ use denote.Ref.{now}
 use lib.ListN.{length, getD, length-set}
 use Rattle.definition.specs.Tables.{tagOffset}
 use Rattle.definition.specs.Valid.{endIn}
-use Rattle.spread.specs.Keys.{Filled}
+use Rattle.spread.specs.Keys.{KeysFilled}
 use Rattle.spread.proofs.Keyed.{filled-next}
 use borrow.Author.Needs.{needs}
 use Rattle.spread.proofs.sure.byte_spans.Statement.{statement}
@@ -15,8 +15,8 @@ use Rattle.spread.proofs.sure.byte_spans.Tie as tie
 
 abbrev Inv-loop : tie.InvT-loop
 Inv-loop tags structures lo₀ hi₀ i₀ lo hi i =
-    (i ≤ length tags) × (length tags ≤ 1088) × (length lo ≡ 1088) × (length hi ≡ 1088) × Filled lo
-    (λ k. tagOffset (getD tags k [])) i × Filled hi (λ k. endIn structures (getD tags k [])) i
+    (i ≤ length tags) × (length tags ≤ 1088) × (length lo ≡ 1088) × (length hi ≡ 1088) × KeysFilled lo
+    (λ k. tagOffset (getD tags k [])) i × KeysFilled hi (λ k. endIn structures (getD tags k [])) i
 
 abbrev μ-loop : tie.MeasureT-loop
 μ-loop tags structures lo₀ hi₀ i₀ lo hi i = length tags - i

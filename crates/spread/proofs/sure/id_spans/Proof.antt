@@ -4,7 +4,7 @@ use Prim.Native.Nat.{_≤_, _-_, _+_}
 use native.Mathlib.Omega.{arith}
 use denote.Ref.{now}
 use lib.ListN.{length, length-set}
-use Rattle.spread.specs.Keys.{Filled, ofSymbol, idKey, idLast}
+use Rattle.spread.specs.Keys.{KeysFilled, ofSymbol, idKey, idLast}
 use Rattle.spread.proofs.Keyed.{filled-next}
 use borrow.Author.Needs.{needs}
 use Rattle.spread.proofs.sure.id_spans.Statement.{statement}
@@ -12,8 +12,8 @@ use Rattle.spread.proofs.sure.id_spans.Tie as tie
 
 abbrev Inv-loop : tie.InvT-loop
 Inv-loop tags others lo₀ hi₀ n i₀ lo hi i =
-    (i ≤ n) × (n ≡ length tags + length others) × (n ≤ 1088) × (length lo ≡ 1088) × (length hi ≡ 1088) × Filled lo
-    (ofSymbol idKey idKey tags others) i × Filled hi (ofSymbol idLast idLast tags others) i
+    (i ≤ n) × (n ≡ length tags + length others) × (n ≤ 1088) × (length lo ≡ 1088) × (length hi ≡ 1088) × KeysFilled lo
+    (ofSymbol idKey idKey tags others) i × KeysFilled hi (ofSymbol idLast idLast tags others) i
 
 abbrev μ-loop : tie.MeasureT-loop
 μ-loop tags others lo₀ hi₀ n i₀ lo hi i = n - i
