@@ -3,6 +3,7 @@ use crate::entries;
 use crate::entries::Symbol;
 use crate::symbols;
 use cip::Status;
+use cip::numbers;
 use cip::replies;
 use model::columns::OTHER_NAME_LENGTH;
 use model::columns::OTHER_NAME_START;
@@ -110,6 +111,16 @@ pub fn entry_step(
     cip::put_u32(buf, used, s.id);
     let end = entries::put_attributes(buf, used + 4, name, s, body, n);
     Step::More(end, after(id), next)
+}
+
+/// Where the first tag of a page is likely to stand: IDs often count from 1 in the order of the table. Any other place would do.
+fn likely(start: u32) -> usize
+    ensures { λ r. ⌜ r ≡ start - 1 ⌝ }
+{
+    if start == 0 {
+        return 0;
+    }
+    numbers::wide(start - 1)
 }
 
 /// Whether a row's scope and ID are those looked for.
@@ -256,7 +267,7 @@ pub fn put_page(
     let end = end_of(limit);
     let mut used = replies::HEADER;
     let mut bound = start as u64;
-    let mut hint = 0;
+    let mut hint = likely(start);
     loop {
         match page_step(
             structures,

@@ -5,6 +5,7 @@ use mathlib.Core.Path.{_≡_, refl}
 use lib.ListN.{length, drop}
 use Rattle.definition.specs.Bytes.{numbers}
 use Rattle.model.specs.Tables.{WhereValid, forPage}
+use native.Mathlib.Omega.{arith}
 use borrow.Author.Needs.{needs}
 use Rattle.listing.proofs.pages.put_page.Statement.{statement}
 use Rattle.listing.proofs.pages.put_page.Tie as tie
@@ -18,7 +19,7 @@ abbrev μ-loop : tie.MeasureT-loop
 μ-loop structures tags others names tag-names scope start body n service limit buf₀ end used₀ bound₀ hint₀ buf used bound hint = end - used
 
 loop-holds : tie.Need-loop-holds Inv-loop μ-loop
-loop-holds c = (search needs, search needs, refl, λ o m v. filled-none _ _ _ _ _ _ _ _ (c .end-of .ensures))
+loop-holds c = (search needs, search needs, refl, λ o m v. filled-none _ _ _ _ _ _ _ _ (c .before .end-of .ensures))
 
 loop-less : tie.Need-loop-less Inv-loop μ-loop
 loop-less c =
@@ -30,13 +31,15 @@ loop-again : tie.Need-loop-again Inv-loop μ-loop
 loop-again c =
     let u = c .before .u in
     let back = c .before .before .before .before .before in let page-step = back .page-step in
-    let loop = back .before .before .loop in
+    let back = back .before .before in let loop = back .loop in
+    let end-of = back .before .before .end-of in
+    let pre = back .before .before .before .before .before .before .before .pre in
     let f = further-more _ _ _ (u .given .1) (page-step .ensures .1) in (
       search needs,
       search needs,
       search needs,
       λ o m v. entry-added _ _ _ _ _ _ _ _ _ _ _ _ _ (loop .inv .3 o m v) (page-step .ensures .0 o m v)
-          (u .given .1) (f .0) (search needs),
+          (u .given .1) (f .0) (omega (arith, end-of .ensures, pre .3)),
     )
 
 enum-told : tie.Need-enum-told Inv-loop μ-loop
@@ -48,8 +51,8 @@ returns c =
     let back = back .before .before in let enum-told = back .enum-told in
     let back = back .before .before .before .before in let page-step = back .page-step in
     let back = back .before .before in let loop = back .loop in
-    let end-of = back .before .end-of in
-    let pre = back .before .before .before .before .before .before .pre in
+    let end-of = back .before .before .end-of in
+    let pre = back .before .before .before .before .before .before .before .pre in
     λ o m v. page-stopped _ _ _ _ _ _ _ _ _ _ _ _ _ (loop .inv .3 o m v) (page-step .ensures .0 o m v)
     (enum-told .given .1) (loop .inv .1) (end-of .ensures) (pre .3) (stop .ensures)
 
@@ -59,8 +62,8 @@ returns-2 c =
     let back = back .before .before in let enum-told2 = back .enum-told2 in
     let back = back .before .before .before .before in let page-step = back .page-step in
     let back = back .before .before in let loop = back .loop in
-    let end-of = back .before .end-of in
-    let pre = back .before .before .before .before .before .before .pre in
+    let end-of = back .before .before .end-of in
+    let pre = back .before .before .before .before .before .before .before .pre in
     λ o m v. page-ended _ _ _ _ _ _ _ _ _ _ _ _ _ (loop .inv .3 o m v) (page-step .ensures .0 o m v)
     (enum-told2 .given .1) (loop .inv .1) (end-of .ensures) (pre .3) (close .ensures)
 
@@ -70,6 +73,7 @@ put-page-spec =
     (tie.spec
     Inv-loop
     μ-loop
+    (λ c κs. search needs)
     (λ c κs. search needs)
     loop-holds
     (λ c κs. search needs)
