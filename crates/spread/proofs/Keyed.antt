@@ -55,7 +55,8 @@ unfolding ofSymbol
 other-of F G tags others j = rw (le-ltb (length tags + j) (length tags) (omega arith), add-sub-cancel-left)
 
 module _ (F F′ G G′ : Row → ℕ) (tags others : List Row) (lo hi : List ℕ)
-    (low : KeysFilled lo (ofSymbol F G tags others) (length tags + length others)) (high : KeysFilled hi (ofSymbol F′ G′ tags others) (length tags + length others))
+    (low : KeysFilled lo (ofSymbol F G tags others) (length tags + length others))
+    (high : KeysFilled hi (ofSymbol F′ G′ tags others) (length tags + length others))
     (far : Apart lo hi (length tags + length others)) where
   at : (i j : ℕ) → i < j → j < length tags + length others
       → either (leb (ofSymbol F′ G′ tags others i) (ofSymbol F G tags others j)) (leb (ofSymbol F′ G′ tags others j) (ofSymbol F G tags others i)) ≡ true
