@@ -16,9 +16,10 @@ ATOMIC = {
 SIGNED = ('SINT', 'INT', 'DINT', 'LINT')
 ACCESS = {'Read/Write': 0, 'Read Only': 2, 'None': 3}
 FLAGS = (('multi_service', 1, True), ('instance_ids', 2, True), ('aoi_locals_refused', 4, False), ('micro800', 8, False))
-MOST = (('structures', 64), ('members', 512), ('programs', 16), ('tags', 1024), ('other symbols', 64), ('bytes of names', 26240),
+MOST = (('structures', 64), ('members', 512), ('programs', 16), ('tags', 1024), ('other symbols', 64), ('bytes of names', 26752),
         ('bytes of tag names', 40960), ('bytes of templates', 65536), ('bytes of tag memory', 65536))
 NO_BIT = 8
+PREFIXES = ('program:', 'routine:', 'task:')  # of an other symbol's name, case ignored: its 40 characters stand behind it
 
 HIDDEN = (1, 0, 0)  # marks of a member: hidden, local, access
 
@@ -70,6 +71,13 @@ def whole(place, n, low, high):
     return n
 
 
+def own_name(place, text):
+    """The name that a routine or a task has behind its prefix."""
+    if not isinstance(text, str):
+        wrong(place, f'{json.dumps(text)} is no name')
+    return text
+
+
 def up(n, step):
     return -(-n // step) * step
 
@@ -81,9 +89,12 @@ class Image:
         self.types = {}  # name: (type word, size, alignment, members by name)
         self.ids = {}    # scope: the IDs that are taken
 
-    def name(self, place, text, store):
-        if not isinstance(text, str) or not 1 <= len(text) <= 40 or not all(' ' <= c <= '~' for c in text):
-            wrong(place, f'{json.dumps(text)} is no name: 1 to 40 characters, space to ~')
+    def name(self, place, text, store, prefixes=()):
+        """The start and the length of a name in its store."""
+        front = next((p for p in prefixes if isinstance(text, str) and text.lower().startswith(p)), '')
+        if not isinstance(text, str) or not 1 <= len(text) <= len(front) + 40 or not all(' ' <= c <= '~' for c in text):
+            most = f'at most 40 characters behind {text[:len(front)]}' if front else '1 to 40 characters'
+            wrong(place, f'{json.dumps(text)} is no name: {most}, space to ~')
         store += text.encode()
         return [len(store) - len(text), len(text)]
 
@@ -178,7 +189,7 @@ class Image:
 
     def other(self, place, scope, name, symbol_type, item):
         word = whole(f'{place}.symbol_type', item.get('symbol_type', symbol_type), 0, 65535)
-        self.rows['others'].append([scope] + self.name(place, name, self.names) + [self.id(scope, item), word])
+        self.rows['others'].append([scope] + self.name(place, name, self.names, PREFIXES) + [self.id(scope, item), word])
 
     def extent(self, place, item):
         """A tag's lengths, its elements, its type's name, and of that the word, the size and the alignment."""
@@ -312,10 +323,10 @@ class Image:
             for where, tag in listed(place, item, 'tags'):
                 self.tag(where, k + 1, tag)
             for where, routine in listed(place, item, 'routines'):
-                self.other(where, k + 1, f'Routine:{routine}', 0x106D, {})
+                self.other(where, k + 1, f'Routine:{own_name(where, routine)}', 0x106D, {})
         for place, item in listed('', cell, 'tasks'):
             check(place, item, ('name', 'instance_id', 'symbol_type'))
-            self.other(place, 0, f'Task:{item.get("name")}', 0x1070, item)
+            self.other(place, 0, f'Task:{own_name(place, item.get("name"))}', 0x1070, item)
         for place, item in listed('', cell, 'system_tags'):
             check(place, item, ('name', 'instance_id', 'symbol_type'))
             self.other(place, 0, item.get('name'), 0x10C4, item)

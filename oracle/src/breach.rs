@@ -72,7 +72,7 @@ fn tests<'a>(t: &'a Tables, memory: usize) -> Vec<Test<'a>> {
     let mut list = counts(t, memory);
     list.extend(each(STRUCTURES, &t.structures, structure_rules(t)));
     list.extend(each(MEMBERS, &t.members, member_rules(t)));
-    list.extend(each(PROGRAMS, &t.programs, name_rules(&t.names, 0)));
+    list.extend(each(PROGRAMS, &t.programs, name_rules(&t.names, 0, forty)));
     list.extend(each(TAGS, &t.tags, tag_rules(t, memory)));
     list.extend(each(OTHERS, &t.others, other_rules(t)));
     list.extend(clashes(t));
@@ -125,18 +125,33 @@ fn each<'a, const N: usize>(
     })
 }
 
-/// Those of a name whose start and length stand at words `at` and `at` + 1 of a row.
-fn name_rules<'a, const N: usize>(store: &'a [u8], at: usize) -> Vec<Rule<'a, N>> {
+/// Those of a name whose start and length stand at words `at` and `at` + 1 of a row; `most` is how many bytes it may have.
+fn name_rules<'a, const N: usize>(store: &'a [u8], at: usize, most: fn(&[u8]) -> usize) -> Vec<Rule<'a, N>> {
     let name = move |r: &[u32; N]| part(store, r[at], r[at + 1]);
     vec![
         rule(1, move |r: &[u32; N]| end(r[at], r[at + 1]) <= store.len() as u64),
-        rule(201, move |r| !name(r).is_empty() && name(r).len() <= 40),
+        rule(201, move |r| !name(r).is_empty() && name(r).len() <= most(name(r))),
         rule(202, move |r| name(r).iter().all(|&byte| 0x20 <= byte && byte <= 0x7E)),
     ]
 }
 
+fn forty(_: &[u8]) -> usize {
+    40
+}
+
+/// Of an other symbol's name 40 more than its prefix has.
+fn forty_behind(name: &[u8]) -> usize {
+    let name = name.to_ascii_lowercase();
+    let starts = |prefix: &str| name.starts_with(prefix.as_bytes());
+    match (starts("program:") || starts("routine:"), starts("task:")) {
+        (true, _) => 48,
+        (_, true) => 45,
+        _ => 40,
+    }
+}
+
 fn structure_rules(t: &Tables) -> Vec<Rule<'_, 10>> {
-    let mut rules = name_rules(&t.names, 0);
+    let mut rules = name_rules(&t.names, 0, forty);
     rules.extend([
         rule(4, |r: &[u32; 10]| r[2] <= 0xFFFF),
         rule(5, |r| r[3] <= 0xFFFF),
@@ -149,7 +164,7 @@ fn structure_rules(t: &Tables) -> Vec<Rule<'_, 10>> {
 }
 
 fn member_rules(t: &Tables) -> Vec<Rule<'_, 9>> {
-    let mut rules = name_rules(&t.names, 0);
+    let mut rules = name_rules(&t.names, 0, forty);
     rules.extend([
         rule(3, |r: &[u32; 9]| is_type(t.structures.len(), r[2])),
         rule(9, |r| r[6] <= 1),
@@ -161,7 +176,7 @@ fn member_rules(t: &Tables) -> Vec<Rule<'_, 9>> {
 }
 
 fn tag_rules(t: &Tables, memory: usize) -> Vec<Rule<'_, 12>> {
-    let mut rules = name_rules(&t.tag_names, 1);
+    let mut rules = name_rules(&t.tag_names, 1, forty);
     rules.extend([
         rule(2, |r: &[u32; 12]| r[0] as usize <= t.programs.len()),
         rule(11, |r| r[10] <= 1),
@@ -176,7 +191,7 @@ fn tag_rules(t: &Tables, memory: usize) -> Vec<Rule<'_, 12>> {
 }
 
 fn other_rules(t: &Tables) -> Vec<Rule<'_, 5>> {
-    let mut rules = name_rules(&t.names, 1);
+    let mut rules = name_rules(&t.names, 1, forty_behind);
     rules.extend([
         rule(2, |r: &[u32; 5]| r[0] as usize <= t.programs.len()),
         rule(6, |r| r[4] <= 0xFFFF),

@@ -3,6 +3,7 @@
 use crate::breach::Head;
 use crate::rng::Rng;
 use crate::tables::Set;
+use crate::valid::PREFIXES;
 use ciplink_sim::rows::{DWORD, Tables};
 
 type Break = fn(&mut Rng, &mut Set) -> Option<()>;
@@ -21,7 +22,7 @@ const fn kind(what: &'static str, told: &'static [Head], apply: Break) -> Kind {
     Kind { what, told, apply }
 }
 
-static BREAKS: [Kind; 72] = [
+static BREAKS: [Kind; 74] = [
     kind("T1 structures", &[(101, 1, 0)], |_, s| many(&mut s.tables.structures, 65)),
     kind("T1 members", &[(101, 2, 0)], |_, s| many(&mut s.tables.members, 513)),
     kind("T1 programs", &[(101, 3, 0)], |_, s| programs(s)),
@@ -38,11 +39,13 @@ static BREAKS: [Kind; 72] = [
     kind("T2 long program name", &[(201, 3, 0)], |r, s| long_name(r, s, 3)),
     kind("T2 long tag name", &[(201, 4, 0)], |r, s| long_name(r, s, 4)),
     kind("T2 long other name", &[(201, 5, 0)], |r, s| long_name(r, s, 5)),
+    kind("T2 long other name behind a prefix", &[(201, 5, 0)], long_behind),
     kind("T2 structure name byte", &[(202, 1, 0)], |r, s| odd_name(r, s, 1)),
     kind("T2 member name byte", &[(202, 2, 0)], |r, s| odd_name(r, s, 2)),
     kind("T2 program name byte", &[(202, 3, 0)], |r, s| odd_name(r, s, 3)),
     kind("T2 tag name byte", &[(202, 4, 0)], |r, s| odd_name(r, s, 4)),
     kind("T2 other name byte", &[(202, 5, 0)], |r, s| odd_name(r, s, 5)),
+    kind("T2 other name byte behind a prefix", &[(202, 5, 0)], odd_behind),
     // names of all four tables may have the byte
     kind("T2 a byte of the names", &[(202, 1, 0), (202, 2, 0), (202, 3, 0), (202, 5, 0)], |r, s| {
         odd_byte(r, s, &[1, 2, 3, 5])
@@ -283,8 +286,34 @@ fn rename(rng: &mut Rng, set: &mut Set, table: u64, name: &[u8]) -> Option<()> {
 }
 
 fn long_name(rng: &mut Rng, set: &mut Set, table: u64) -> Option<()> {
-    let length = *rng.pick(&[41, 42, 300]);
-    rename(rng, set, table, &vec![b'n'; length])
+    let mut name = vec![b'n'; *rng.pick(&[41, 42, 48, 300])];
+    let starts: &[&[u8]] = match table {
+        5 => &[b"", b"Map:", b"Program", b"Programs:", b" Task:", b"xProgram:", b"Routine;"],
+        _ => &[b"", b"", b"Program:", b"Task:"],
+    };
+    let start = *rng.pick(starts);
+    name[..start.len()].copy_from_slice(start);
+    rename(rng, set, table, &name)
+}
+
+/// A prefix of an other symbol's name and these bytes behind it.
+fn prefixed(rng: &mut Rng, rest: &[u8]) -> Vec<u8> {
+    let prefix = *rng.pick(&PREFIXES);
+    [&rng.recase(prefix), rest].concat()
+}
+
+fn long_behind(rng: &mut Rng, set: &mut Set) -> Option<()> {
+    let rest = vec![b'n'; *rng.pick(&[41, 42, 43, 48, 300])];
+    let name = prefixed(rng, &rest);
+    rename(rng, set, 5, &name)
+}
+
+/// A byte behind a prefix, often behind the 40th of the name, is odd.
+fn odd_behind(rng: &mut Rng, set: &mut Set) -> Option<()> {
+    let mut rest = vec![b'n'; *rng.pick(&[1, 34, 36, 39, 40])];
+    *rest.last_mut()? = odd(rng);
+    let name = prefixed(rng, &rest);
+    rename(rng, set, 5, &name)
 }
 
 /// No byte of a name.

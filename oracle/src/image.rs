@@ -14,6 +14,7 @@ mod rng;
 mod served;
 mod tables;
 mod tally;
+mod valid;
 
 use ciplink_sim::logix::Logix;
 use std::io::Write;
@@ -27,7 +28,7 @@ const MOST: [(&str, usize); 10] = [
     ("programs", 16),
     ("tags", 1024),
     ("other symbols", 64),
-    ("bytes of names", 26_240),
+    ("bytes of names", 26_752),
     ("bytes of tag names", 40_960),
     ("bytes of templates", 65_536),
     ("bytes of tag memory", 65_536),

@@ -54,6 +54,9 @@ struct Comparison {
     /// Messages by the flags' bits.
     flags: [u64; 16],
     finished: [u64; 3],
+    /// Other symbols with a name of more than 40 bytes, and symbol pages that list such a name.
+    long_symbols: usize,
+    long_pages: u64,
     most_tags: usize,
     longest: usize,
     differ: u64,
@@ -87,6 +90,7 @@ impl Comparison {
         let mut rng = Rng::new(seed);
         let mut set = sound(seed, tables::sized(&mut rng, size));
         self.most_tags = self.most_tags.max(set.tables.tags.len());
+        self.long_symbols += tables::long_names(&set.tables).len();
         if self.verdict(Origin { seed, set: &set, broken: None }) == 1 {
             let (mut entry, mut which) = (Rng::new(!seed), Rng::new(seed ^ 0xA115));
             for (flags, count) in legs(set.flags, messages) {
@@ -137,6 +141,7 @@ impl Comparison {
             Expected::Replied(reply) => {
                 self.tally.note(&case.message, reply, set.flags.micro800);
                 self.longest = self.longest.max(reply.len());
+                self.long_pages += u64::from(lists_long_name(set, &case.message, reply));
                 self.expected.extend(reply);
                 self.expected.resize(case.limit.max(8), 0);
                 reply.len() as u64
@@ -202,6 +207,8 @@ impl Comparison {
         println!("each of the 16 combinations of flags: at least {fewest} messages");
         let [reads, templates, pages] = self.finished;
         println!("continued to the end: {reads} reads, {templates} template reads, {pages} symbol pages");
+        let (symbols, pages) = (self.long_symbols, self.long_pages);
+        println!("other symbols of more than 40 bytes: {symbols}, symbol pages that list one: {pages}");
         println!("longest reply {} bytes, largest tag table {} tags", self.longest, self.most_tags);
         println!(
             "ciplink_valid and ciplink_breach: sets broken in one place, and which rule was told of which table"
@@ -213,6 +220,12 @@ impl Comparison {
             n => println!("{n} answers differ"),
         }
     }
+}
+
+/// Whether a reply is a symbol page on which a name of more than 40 bytes stands.
+fn lists_long_name(set: &Set, message: &[u8], reply: &[u8]) -> bool {
+    let listed = |name: &&[u8]| reply.windows(name.len()).any(|part| part == *name);
+    message.first() == Some(&0x55) && tables::long_names(&set.tables).iter().any(listed)
 }
 
 /// What the port says of a table set. The numbers that it tells stand between two guards.

@@ -14,7 +14,7 @@ static ciplink_member members[MEMBERS];
 static ciplink_program programs[PROGRAMS];
 static ciplink_tag tags[TAGS];
 static ciplink_other others[OTHERS];
-static uint8_t names[26240], tag_names[40960], templates[65536], memory[65536], reply[65535], out[65536], request[65535];
+static uint8_t names[26752], tag_names[40960], templates[65536], memory[65536], reply[65535], out[65536], request[65535];
 static ciplink_tables t = {structures, STRUCTURES, members, MEMBERS, programs, PROGRAMS, tags, TAGS, others, OTHERS, names, 0,
                            tag_names, 0, templates, sizeof templates, 3, memory, sizeof memory};
 

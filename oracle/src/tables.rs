@@ -1,6 +1,7 @@
 //! Generates table sets that are valid by T1 to T6: mostly small, and rich in what the services tell apart.
 
 use crate::rng::Rng;
+use crate::valid::other_length;
 use ciplink_sim::rows::{DWORD, Flags, Tables};
 use std::collections::BTreeSet;
 
@@ -338,22 +339,39 @@ fn place(rng: &mut Rng, t: &mut Tables, size: &Size) -> u32 {
     at + *rng.pick(&[0, 0, 1, 4]) * u32::from(gaps)
 }
 
+/// A name as tags have them, or a program's, mostly with its prefix, or up to 48 bytes behind what is a prefix or nearly one: more than it may have too.
+fn other_name(rng: &mut Rng, t: &Tables) -> Vec<u8> {
+    if rng.chance(30) {
+        return name(rng);
+    }
+    if !t.programs.is_empty() && rng.chance(50) {
+        let p = rng.pick(&t.programs);
+        let plain = t.name(p[0], p[1]).to_vec();
+        let prefix: &[u8] = if rng.chance(80) { b"Program:" } else { b"" };
+        return rng.recase(&[prefix, &plain].concat());
+    }
+    let start = *rng.pick(&STARTS);
+    let length = *rng.pick(&[0, 1, 5, 32, 33, 35, 36, 40, 40, 41, 43]);
+    let rest = printable(rng, length);
+    [rng.recase(start), rest].concat()
+}
+
+const STARTS: [&[u8]; 10] =
+    [b"Program:", b"Program:", b"Routine:", b"Routine:", b"Task:", b"Task:", b"Map:", b"Programs:", b" Task:", b"Program"];
+
+/// The names of other symbols that have more than 40 bytes.
+pub fn long_names(t: &Tables) -> Vec<&[u8]> {
+    t.others.iter().map(|o| t.name(o[1], o[2])).filter(|name| name.len() > 40).collect()
+}
+
 fn others(rng: &mut Rng, t: &mut Tables, size: &Size) {
     let mut ids: BTreeSet<(u32, u32)> = t.tags.iter().map(|r| (r[0], r[3])).collect();
     let tag_names: BTreeSet<(u32, Vec<u8>)> =
         t.tags.iter().map(|r| (r[0], t.tag_name(r).to_ascii_lowercase())).collect();
     for _ in 0..rng.below(size.others) {
         let scope = if rng.chance(75) { 0 } else { rng.below(t.programs.len() as u32 + 1) };
-        let word = match t.programs.is_empty() || rng.chance(40) {
-            true => name(rng),
-            false => {
-                let p = rng.pick(&t.programs);
-                let plain = t.name(p[0], p[1]).to_vec();
-                let prefix: &[u8] = if rng.chance(80) { b"Program:" } else { b"" };
-                rng.recase(&[prefix, &plain].concat())
-            }
-        };
-        if word.len() > 40 || tag_names.contains(&(scope, word.to_ascii_lowercase())) {
+        let word = other_name(rng, t);
+        if !other_length(&word) || tag_names.contains(&(scope, word.to_ascii_lowercase())) {
             continue;
         }
         let [start, length] = keep(rng, &mut t.names, &word);

@@ -45,9 +45,27 @@ fn counts(t: &Tables, memory: &[u8]) -> Verdict {
 }
 
 fn named(store: &[u8], start: u32, length: u32) -> Verdict {
+    named_by(store, start, length, |name| (1..=40).contains(&name.len()))
+}
+
+fn named_by(store: &[u8], start: u32, length: u32, fits: fn(&[u8]) -> bool) -> Verdict {
     let name = part(store, start, length).ok_or("a name past its store")?;
-    hold((1..=40).contains(&name.len()), || "T2: name length".into())?;
+    hold(fits(name), || "T2: name length".into())?;
     hold(name.iter().all(|b| (0x20..=0x7E).contains(b)), || "T2: name bytes".into())
+}
+
+/// Document 02, P2: an other symbol has 0 to 40 bytes behind one of these, case ignored, and 1 to 40 in all without one.
+pub const PREFIXES: [&[u8]; 3] = [b"Program:", b"Routine:", b"Task:"];
+
+pub fn other_length(name: &[u8]) -> bool {
+    let behind = |prefix: &&[u8]| {
+        let (start, rest) = name.split_at_checked(prefix.len())?;
+        start.eq_ignore_ascii_case(prefix).then_some(rest.len())
+    };
+    match PREFIXES.iter().find_map(behind) {
+        Some(rest) => rest <= 40,
+        None => (1..=40).contains(&name.len()),
+    }
 }
 
 fn structure(t: &Tables, index: usize) -> Verdict {
@@ -107,7 +125,7 @@ fn tag(t: &Tables, memory: &[u8], index: usize) -> Verdict {
 fn other(t: &Tables, index: usize) -> Verdict {
     let o = &t.others[index];
     hold(o[0] as usize <= t.programs.len(), || "scope".into())?;
-    named(&t.names, o[1], o[2])?;
+    named_by(&t.names, o[1], o[2], other_length)?;
     hold(o[3] != 0, || "T3: ID 0".into())?;
     hold(o[4] < 0x1_0000, || "symbol type".into())?;
     let name = t.name(o[1], o[2]);

@@ -15,7 +15,7 @@ use Rattle.laws.proofs.Chain.{by-test, clash}
 use Rattle.laws.proofs.First.{first-all, first-none, isNone, none-is, first-every}
 use Rattle.laws.proofs.Tests.{equal-tests, every-at, every-by, everyFrom-at, everyFrom-by, pairs-two, pairs-by, every-part-at, every-part-by, every-part, regroup, both-assoc, both-implied, every-both, every-append, from-both, from-every}
 use Rattle.definition.specs.Tables.{Tables, Row, structureName, structureSize, firstMember, memberCount, templateStart, templateLength, structureAt, membersIn, memberName, memberType, memberBit, noBit, memberAccess, programName, tagName, tagId, tagAccess, otherName, otherId}
-use Rattle.definition.specs.Valid.{valid, encoded, t1, t2, t3, t4, t5, t6, nameStored, isType, isName, structureEncoded, memberEncoded, tagEncoded, otherEncoded, memberFits, structureFits, tagFits, endIn, apart, tagNamesDiffer, otherNamesDiffer, programNamesDiffer, idsDiffer}
+use Rattle.definition.specs.Valid.{valid, encoded, t1, t2, t3, t4, t5, t6, nameStored, isType, isName, isOtherName, structureEncoded, memberEncoded, tagEncoded, otherEncoded, memberFits, structureFits, tagFits, endIn, apart, tagNamesDiffer, otherNamesDiffer, programNamesDiffer, idsDiffer}
 use Rattle.definition.specs.Breach.{structuresTable, membersTable, programsTable, tagsTable, othersTable, Test, rowAt, most, RowRule, each, two, tagsOthers, memberOf, noTest, counts, nameLength, nameBytes, structureRules, memberRules, programRules, tagRules, otherRules, hasElements, endsWithin, clashes, toldOf, rowBreach, testBreach, tests, breach}
 use Rattle.definition.specs.Told.{None-exactly-where-valid}
 
@@ -118,8 +118,8 @@ unfolding every tagRules nameLength nameBytes hasElements isName tagEncoded tagF
 tag-row structures tagNames programs memory r = equal-tests _ _ (λ e. search regroup depth 20) (λ e. search regroup depth 20)
 
 other-row : (names : List ℕ) (programs : ℕ) (r : Row) → every (λ x. x .passes r) (otherRules names programs)
-    ≡ both (otherEncoded (length names) programs r) (both (isName (otherName names r)) (ltb 0 (otherId r)))
-unfolding every otherRules nameLength nameBytes isName otherEncoded
+    ≡ both (otherEncoded (length names) programs r) (both (isOtherName (otherName names r)) (ltb 0 (otherId r)))
+unfolding every otherRules nameBytes isOtherName otherEncoded
 other-row names programs r = equal-tests _ _ (λ e. search regroup depth 20) (λ e. search regroup depth 20)
 
 -- ---- the counts, the members of structures, and rows that clash

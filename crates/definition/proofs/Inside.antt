@@ -14,7 +14,7 @@ use Rattle.laws.specs.Pick.{both, isEmpty}
 use Rattle.laws.proofs.Chain.{by-test, pick-all}
 use Rattle.laws.proofs.Tests.{both-true, pick-by, scan-all}
 use Rattle.definition.specs.Segment.{Segment, nameOf}
-use Rattle.definition.specs.Names.{isProgramName, afterPrefix}
+use Rattle.definition.specs.Names.{isProgramName, afterProgram}
 use Rattle.definition.specs.Reply.{Status}
 use Rattle.definition.specs.Request.{objectOf, symbolInstance}
 use Rattle.definition.specs.Tables.{Tables, Flags, takesInstances, Row, structureSize, membersOf, memberType, memberLength, memberOffset, memberBit, noBit, isLocal, tagOffset}
@@ -188,7 +188,7 @@ module _ (t : Tables) (f : Flags) (memory : ℕ) (ok : valid t memory ≡ true) 
   scoped-stands none s rest = scope-stands 0 (s ∷ rest)
   scoped-stands (some name) s rest =
       pick-all Stood (both (isProgramName name) (not (isEmpty rest)))
-      (program-stands (programNamed t (afterPrefix name)) rest) (scope-stands 0 (s ∷ rest))
+      (program-stands (programNamed t (afterProgram name)) rest) (scope-stands 0 (s ∷ rest))
 
   resolve-stands : (path : List Segment) → Stood (resolve t f path)
   unfolding resolve

@@ -7,6 +7,7 @@ pub mod Granted
 pub mod Inside
 pub mod Lengths
 pub mod Listing
+pub mod OtherNames
 pub mod Replies
 pub mod Saying
 pub mod Selected

@@ -19,7 +19,7 @@ use Rattle.definition.specs.Request.{Request, malformed, request, reques
 use Rattle.definition.specs.Tables.{Tables, Flags, Row, templateStart, templateLength, structureAt, membersOf, isLocal, noBit, takesInstances, takesEnvelopes}
 use Rattle.definition.specs.Types.{BOOL, isStructure, structureOf, sizeIn, typeHeader}
 use Rattle.definition.specs.Lookup.{marked, structureWithTemplate, programNamed, tagNamed, tagWithId, otherWithId, memberNamed}
-use Rattle.definition.specs.Names.{isProgramName, afterPrefix}
+use Rattle.definition.specs.Names.{isProgramName, afterProgram}
 use Rattle.definition.specs.Resolve.{Target, Resolved, found, turned, Move, indexes, member, stray, moves, allBelow, index, memberOf, memberFound, visibleMember, walk, moveTo, andThen, fromTag, byInstance, byName, inScope, inProgram, scopedBy, resolve, wholeTag}
 use Rattle.definition.specs.Access.{isDenied, permitted, tagTarget}
 use Rattle.definition.specs.Fragment.{space, statusOf, fragmentReply}
@@ -215,7 +215,7 @@ program-well t f (some k) rest = scope-well t f (suc k) rest
 scoped-well : (t : Tables) (f : Flags) (name : Option (List ℕ)) (s : Segment) (rest : List Segment) → TurnsWell (scopedBy t f name s rest)
 scoped-well t f none s rest = scope-well t f 0 (s ∷ rest)
 scoped-well t f (some name) s rest =
-    pick-all TurnsWell (both (isProgramName name) (not (isEmpty rest))) (program-well t f (programNamed t (afterPrefix name)) rest)
+    pick-all TurnsWell (both (isProgramName name) (not (isEmpty rest))) (program-well t f (programNamed t (afterProgram name)) rest)
     (scope-well t f 0 (s ∷ rest))
 
 resolve-well : (t : Tables) (f : Flags) (path : List Segment) → TurnsWell (resolve t f path)

@@ -5,7 +5,7 @@ use mathlib.Core.Path.{_≡_, refl, _∙_, ap, subst}
 use mathlib.Core.Logic.{_⊎_, inl, inr}
 use mathlib.Core.Bool.{Bool, true, false, not}
 use mathlib.Core.List.{List}
-use mathlib.Core.Option.{none, some}
+use mathlib.Core.Option.{Option, none, some}
 use Prim.Native.Nat.{ℕ, _-_, _≤_, _<_, max}
 use native.Mathlib.Nat.{mul-pos}
 use native.Mathlib.Omega.{arith}
@@ -18,11 +18,12 @@ use Rattle.laws.proofs.Chain.{by-test, clash}
 use Rattle.laws.proofs.First.{First, first-some}
 use Rattle.laws.specs.Tests.{stretch}
 use Rattle.laws.proofs.Tests.{both-true, both-fails, either-fails, every-fails, All-at, All-parts, passing, All-passing, passing-at, All-stretch}
+use Rattle.definition.specs.Names.{afterPrefix}
 use Rattle.definition.specs.Tables.{Tables, Row, tagScope, tagId, tagType, tagOffset}
 use Rattle.definition.specs.Types.{isStructure}
-use Rattle.definition.specs.Valid.{isType, tagNamesDiffer, otherNamesDiffer, programNamesDiffer, idsDiffer, endIn, apart}
+use Rattle.definition.specs.Valid.{isType, lengthBy, otherLength, tagNamesDiffer, otherNamesDiffer, programNamesDiffer, idsDiffer, endIn, apart}
 use Rattle.definition.specs.Breach.{Breach, Test, rowAt, counts, nameLength, nameBytes, structureRules, memberRules, programRules, hasElements, tagRules, otherRules, endsWithin, clashes, tests, noTest, testAt, tell, toldOf, rowBreach, testBreach, breach}
-use Rattle.definition.specs.Told.{countOf, NoType, OddByte, SharedByte, Says, What-is-told-is-true}
+use Rattle.definition.specs.Told.{behind, countOf, NoType, OddByte, SharedByte, Says, What-is-told-is-true}
 use Rattle.definition.proofs.Breaches.{told-none, passed as all-pass}
 use Rattle.definition.proofs.Facts.{size-some, elements-some}
 use Rattle.definition.proofs.Lengths.{zero-between}
@@ -91,6 +92,16 @@ no-type bound type e =
 none-or-long : (name : List ℕ) → nameLength name ≡ false → (length name ≡ 0) ⊎ (40 < length name)
 unfolding nameLength
 none-or-long name e = none-or-over (length name) 40 e
+
+-- of an other symbol's name, by what stands after its prefix
+none-or-long-after : (name : List ℕ) (after : Option (List ℕ)) → lengthBy name after ≡ false → (length name ≡ 0) ⊎ (40 < length (behind name after))
+unfolding lengthBy
+none-or-long-after name (some rest) e = inr (leb-false (length rest) 40 e)
+none-or-long-after name none e = none-or-over (length name) 40 e
+
+none-or-long-other : (name : List ℕ) → otherLength name ≡ false → (length name ≡ 0) ⊎ (40 < length (behind name (afterPrefix name)))
+unfolding otherLength
+none-or-long-other name e = none-or-long-after name (afterPrefix name) e
 
 odd-byte : (name : List ℕ) → nameBytes name ≡ false → OddByte name
 unfolding nameBytes
@@ -204,7 +215,7 @@ module _ (t : Tables) (memory : ℕ) (b : Breach) (e : breach t memory ≡ some 
     alias-no-mark = rule (λ c s. s .alias-no-mark) (omega (arith, leb-false));
     too-many = rule (λ c s. s .too-many) (search first-over depth 9);
     access-high = rule (λ c s. s .access-high) (omega (arith, leb-false));
-    name-length = rule (λ c s. s .name-length) (search none-or-long);
+    name-length = rule (λ c s. s .name-length) (search (none-or-long, none-or-long-other));
     name-byte = rule (λ c s. s .name-byte) (search odd-byte);
     same-name =
         rule (λ c s. s .same-name) (

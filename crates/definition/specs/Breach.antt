@@ -12,7 +12,7 @@ use Rattle.laws.specs.Tests.{every}
 use Rattle.laws.specs.First.{firstOf}
 use Rattle.definition.specs.Tables.{Tables, Row, structureName, templateId, handle, structureSize, firstMember, memberCount, isAoi, templateStart, templateLength, structureAt, memberName, memberType, memberLength, memberOffset, memberBit, noBit, isHidden, isLocal, memberAccess, programName, tagScope, tagName, tagId, tagType, tagLengths, lengthsOf, tagElements, tagAccess, isAlias, otherScope, otherName, otherId, otherType}
 use Rattle.definition.specs.Types.{sizeIn}
-use Rattle.definition.specs.Valid.{nameStored, symbolNameStored, isMark, isType, is16, tagNamesDiffer, otherNamesDiffer, programNamesDiffer, idsDiffer, product, zerosLast, isBoolArray, endIn, apart}
+use Rattle.definition.specs.Valid.{nameStored, symbolNameStored, isMark, isType, is16, otherLength, tagNamesDiffer, otherNamesDiffer, programNamesDiffer, idsDiffer, product, zerosLast, isBoolArray, endIn, apart}
 
 -- ---- the tables and the two stores that T1 bounds, by number
 
@@ -145,7 +145,7 @@ counts t memory =
 
 -- ---- the rules of a row
 
--- T2, of a name: 1 to 40 bytes; 0x20 to 0x7E
+-- T2, of a name: 1 to 40 bytes (an other symbol's: `otherLength`); 0x20 to 0x7E
 unfoldable pub nameLength : List ℕ → Bool
 nameLength name = both (ltb 0 (length name)) (leb (length name) 40)
 
@@ -206,7 +206,7 @@ tagRules structures tagNames programs memory =
 unfoldable pub otherRules : (names : List ℕ) (programs : ℕ) → List RowRule
 otherRules names programs =
     rowRule 1 (symbolNameStored (length names))
-    ∷ rowRule 201 (λ r. nameLength (otherName names r))
+    ∷ rowRule 201 (λ r. otherLength (otherName names r))
     ∷ rowRule 202 (λ r. nameBytes (otherName names r))
     ∷ rowRule 2 (λ r. leb (otherScope r) programs)
     ∷ rowRule 6 (λ r. is16 (otherType r))

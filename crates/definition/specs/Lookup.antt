@@ -9,7 +9,7 @@ use lib.ListN.{getD}
 use Rattle.laws.specs.Pick.{pick, _&_}
 use Rattle.laws.specs.Scan.{scan}
 use Rattle.laws.specs.Tests.{some-of}
-use Rattle.definition.specs.Names.{sameName, isProgramName, afterPrefix}
+use Rattle.definition.specs.Names.{sameName, isProgramName, afterProgram}
 use Rattle.definition.specs.Tables.{Tables, Row, templateId, membersOf, memberName, isHidden, isLocal, programName, tagScope, tagName, symbolScope, symbolId}
 
 -- the index of the first row that passes
@@ -28,7 +28,7 @@ programNamed t name = programIn (t .programs) (t .names) name
 
 -- the program that a name with the prefix means
 unfoldable pub programOf : Tables → (name : List ℕ) → Option ℕ
-programOf t name = pick (isProgramName name) (programNamed t (afterPrefix name)) none
+programOf t name = pick (isProgramName name) (programNamed t (afterProgram name)) none
 
 unfoldable pub tagIn : (tags : List Row) (tagNames : List ℕ) (scope : ℕ) (name : List ℕ) → Option ℕ
 tagIn tags tagNames scope name = first (λ r. eqb (tagScope r) scope & sameName (tagName tagNames r) name) tags

@@ -1,4 +1,4 @@
--- Theorems about the definition, each a named statement; proofs/Theorems, Granted, Inside and Stored prove them. Points 1 to 3 are those of document 00:
+-- Theorems about the definition, each a named statement; proofs/Theorems, Granted, Inside, Stored and OtherNames prove them. Points 1 to 3 are those of document 00:
 -- the first part is point 1, and what points 2 and 3 lean on follows.
 use mathlib.Core.Path.{_≡_}
 use mathlib.Core.Logic.{_≢_, _↔_, _⊎_}
@@ -8,15 +8,16 @@ use Prim.Native.Nat.{ℕ, _+_, _*_, _≤_, _<_}
 use lib.Bits.{bitOr, bitAnd}
 use lib.Dec.{eqb}
 use lib.ListN.{length, getD}
-use Rattle.laws.specs.Tests.{some-of}
+use Rattle.laws.specs.Pick.{_&_}
+use Rattle.laws.specs.Tests.{every, pairs, some-of}
 use Rattle.definition.specs.Bytes.{u16At, u32At}
 use Rattle.definition.specs.Reply.{room}
 use Rattle.definition.specs.Segment.{Segment}
 use Rattle.definition.specs.Request.{request, requestOf, isTagPath}
-use Rattle.definition.specs.Tables.{Tables, Flags, Row, noBit, tagOffset}
+use Rattle.definition.specs.Tables.{Tables, Flags, Row, noBit, structureName, memberName, programName, tagName, tagOffset, otherName}
 use Rattle.definition.specs.Types.{atomicSize, isAtomic, elementSize, typeHeader}
 use Rattle.definition.specs.Lookup.{tagAt}
-use Rattle.definition.specs.Valid.{valid, tagEnd}
+use Rattle.definition.specs.Valid.{encoded, t1, isName, isOtherName, tagNamesDiffer, otherNamesDiffer, programNamesDiffer, t3, t4, t5, t6, valid, tagEnd}
 use Rattle.definition.specs.Resolve.{Target, found}
 use Rattle.definition.specs.Access.{tagTarget}
 use Rattle.definition.specs.Read.{Selection, granted, askTarget}
@@ -116,3 +117,31 @@ Element-sizes = (code : ℕ) → isAtomic code ≡ true → some-of (eqb (atomic
 
 abbrev pub Header-sizes : Type 0
 Header-sizes = (structures : List Row) (type : ℕ) → some-of (eqb (length (typeHeader structures type))) (2 ∷ 4 ∷ []) ≡ true
+
+-- ---- document 02, P2: the wider names of other symbols
+
+abbrev pub Name-is-an-other-name : Type 0
+Name-is-an-other-name = (name : List ℕ) → isName name ≡ true → isOtherName name ≡ true
+
+-- what was valid with 1 to 40 bytes for every name is valid
+abbrev pub What-was-valid-is-valid : Type 0
+What-was-valid-is-valid =
+    (t : Tables) (memory : ℕ)
+    → (encoded t
+    & t1 t memory
+    & (every (λ r. isName (structureName (t .names) r)) (t .structures)
+    & every (λ r. isName (memberName (t .names) r)) (t .members)
+    & every (λ r. isName (programName (t .names) r)) (t .programs)
+    & every (λ r. isName (tagName (t .tagNames) r)) (t .tags)
+    & every (λ r. isName (otherName (t .names) r)) (t .others)
+    & pairs (tagNamesDiffer (t .tagNames)) (t .tags)
+    & every (λ r. every (otherNamesDiffer (t .tagNames) (t .names) r) (t .others)) (t .tags)
+    & pairs (programNamesDiffer (t .names)) (t .programs))
+    & t3 t
+    & t4 t
+    & t5 t
+    & t6 t memory) ≡ true
+    → valid t memory ≡ true
+
+abbrev pub Other-name-has-at-most-48-bytes : Type 0
+Other-name-has-at-most-48-bytes = (name : List ℕ) → isOtherName name ≡ true → length name ≤ 48

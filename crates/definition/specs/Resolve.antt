@@ -9,7 +9,7 @@ use lib.ListN.{length, getD, drop}
 use Rattle.laws.specs.Pick.{pick, both, isEmpty}
 use Rattle.definition.specs.Reply.{Status, pathError, pathUnknown}
 use Rattle.definition.specs.Segment.{Segment, elementOf, nameOf}
-use Rattle.definition.specs.Names.{isProgramName, afterPrefix}
+use Rattle.definition.specs.Names.{isProgramName, afterProgram}
 use Rattle.definition.specs.Request.{objectOf, symbolInstance}
 use Rattle.definition.specs.Tables.{Tables, Flags, takesInstances, Row, membersOf, memberType, memberLength, memberOffset, memberBit, noBit, isLocal, memberAccess, tagType, lengthsOf, tagElements, tagAccess, tagOffset}
 use Rattle.definition.specs.Types.{BOOL, isDwordArray, isStructure, structureOf, elementSize}
@@ -184,7 +184,7 @@ inProgram t f (some k) rest = inScope t f (suc k) rest
 abbrev pub scopedBy : Tables → Flags → Option (List ℕ) → (s : Segment) (rest : List Segment) → Resolved
 scopedBy t f none s rest = inScope t f 0 (s ∷ rest)
 scopedBy t f (some name) s rest =
-    pick (both (isProgramName name) (not (isEmpty rest))) (inProgram t f (programNamed t (afterPrefix name)) rest) (inScope t f 0 (s ∷ rest))
+    pick (both (isProgramName name) (not (isEmpty rest))) (inProgram t f (programNamed t (afterProgram name)) rest) (inScope t f 0 (s ∷ rest))
 
 -- [01]
 unfoldable pub resolve : Tables → Flags → List Segment → Resolved

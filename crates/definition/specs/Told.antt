@@ -4,12 +4,12 @@ use mathlib.Core.Path.{_≡_}
 use mathlib.Core.Logic.{_≢_, _⊎_, _↔_}
 use mathlib.Core.Bool.{true, false}
 use mathlib.Core.List.{List, []}
-use mathlib.Core.Option.{none, some}
+use mathlib.Core.Option.{Option, none, some}
 use Prim.Native.Nat.{ℕ, _+_, _*_, _≤_, _<_, max}
 use lib.Dec.{eqb}
 use lib.ListN.{length, getD}
 use Rattle.laws.specs.Pick.{pick}
-use Rattle.definition.specs.Names.{sameName}
+use Rattle.definition.specs.Names.{sameName, afterPrefix}
 use Rattle.definition.specs.Tables.{Tables, Row, endOfName, endOfSymbolName, firstLength, secondLength, thirdLength, structureName, templateId, handle, structureSize, firstMember, memberCount, isAoi, templateStart, templateLength, memberType, memberLength, memberOffset, memberBit, isHidden, isLocal, memberAccess, symbolScope, symbolId, tagName, tagType, lengthsOf, tagElements, tagAccess, isAlias, tagOffset, otherName, otherType}
 use Rattle.definition.specs.Types.{isAtomic, sizeIn}
 use Rattle.definition.specs.Valid.{valid, product, isBoolArray, endIn}
@@ -40,6 +40,14 @@ storeOf t table = pick (eqb table tagsTable) (t .tagNames) (t .names)
 abbrev pub nameOf : Tables → (table : ℕ) → Row → List ℕ
 nameOf t table r =
     pick (eqb table tagsTable) (tagName (t .tagNames) r) (pick (eqb table othersTable) (otherName (t .names) r) (structureName (t .names) r))
+
+-- the bytes of a row's name that T2 counts: of an other symbol's those after its prefix
+abbrev pub behind : (name : List ℕ) (after : Option (List ℕ)) → List ℕ
+behind name (some rest) = rest
+behind name none = name
+
+abbrev pub countedOf : Tables → (table : ℕ) → Row → List ℕ
+countedOf t table r = pick (eqb table othersTable) (behind (nameOf t table r) (afterPrefix (nameOf t table r))) (nameOf t table r)
 
 -- where a row's name ends in its store
 abbrev pub nameEnd : (table : ℕ) → Row → ℕ
@@ -105,8 +113,8 @@ module _ (t : Tables) (memory : ℕ) (b : Breach) where
     -- T1: the first row or byte too many; an access above 3
     pub too-many : b .rule ≡ 101 → b .row ≡ limitOf (b .table)
     pub access-high : b .rule ≡ 102 → 3 < accessOf (b .table) toldRow
-    -- T2: a name of no or more than 40 bytes; a byte of it below 0x20 or above 0x7E; the same name, in one scope unless they are programs
-    pub name-length : b .rule ≡ 201 → (length (nameOf t (b .table) toldRow) ≡ 0) ⊎ (40 < length (nameOf t (b .table) toldRow))
+    -- T2: a name of no bytes, or of more than 40 that count; a byte of it below 0x20 or above 0x7E; the same name, in one scope unless they are programs
+    pub name-length : b .rule ≡ 201 → (length (nameOf t (b .table) toldRow) ≡ 0) ⊎ (40 < length (countedOf t (b .table) toldRow))
     pub name-byte : b .rule ≡ 202 → OddByte (nameOf t (b .table) toldRow)
     pub same-name : b .rule ≡ 203
         → (sameName (nameOf t (b .otherTable) clashRow) (nameOf t (b .table) toldRow) ≡ true)

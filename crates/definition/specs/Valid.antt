@@ -1,13 +1,14 @@
 -- Document 01, "Type, member, tag", T1 to T6, one test each, and item 4: the tables' encoding in rows.
--- All of it is document 01's alone. A row's words have 32 bits by their type.
+-- All of it is document 01's alone, but for the names of other symbols in T2: document 02, P2. A row's words have 32 bits by their type.
 use mathlib.Core.Bool.{Bool, not, true}
 use mathlib.Core.List.{List, [], _∷_}
+use mathlib.Core.Option.{Option, none, some}
 use Prim.Native.Nat.{ℕ, _+_, _*_, _-_, max}
 use lib.Dec.{ltb, leb, eqb}
 use lib.ListN.{length}
 use Rattle.laws.specs.Pick.{pick, _&_, either}
 use Rattle.laws.specs.Tests.{every, everyFrom, pairs}
-use Rattle.definition.specs.Names.{sameName}
+use Rattle.definition.specs.Names.{sameName, afterPrefix}
 use Rattle.definition.specs.Tables.{Tables, Row, endOfName, endOfSymbolName, structureName, templateId, handle, structureSize, firstMember, memberCount, isAoi, templateStart, templateLength, membersIn, memberName, memberType, memberLength, memberOffset, memberBit, noBit, isHidden, isLocal, memberAccess, programName, tagScope, tagName, tagId, tagType, tagLengths, firstLength, lengthsOf, tagElements, tagAccess, isAlias, tagOffset, otherScope, otherName, otherId, otherType, symbolScope, symbolId}
 use Rattle.definition.specs.Types.{isAtomic, isStructure, sizeIn, DWORD}
 
@@ -90,6 +91,17 @@ isName name =
     & leb (length name) 40
     & every (λ b. leb 0x20 b & leb b 0x7E) name
 
+-- P2: an other symbol may have 0 to 40 bytes after `Program:`, `Routine:` or `Task:`, and has 1 to 40 in all without such a prefix
+unfoldable pub lengthBy : (name : List ℕ) (after : Option (List ℕ)) → Bool
+lengthBy name (some rest) = leb (length rest) 40
+lengthBy name none = ltb 0 (length name) & leb (length name) 40
+
+unfoldable pub otherLength : List ℕ → Bool
+otherLength name = lengthBy name (afterPrefix name)
+
+unfoldable pub isOtherName : List ℕ → Bool
+isOtherName name = otherLength name & every (λ b. leb 0x20 b & leb b 0x7E) name
+
 -- two symbols of one scope have different names
 unfoldable pub tagNamesDiffer : (tagNames : List ℕ) → Row → Row → Bool
 tagNamesDiffer tagNames a b = not (eqb (tagScope a) (tagScope b) & sameName (tagName tagNames a) (tagName tagNames b))
@@ -106,7 +118,7 @@ t2 t =
     & every (λ r. isName (memberName (t .names) r)) (t .members)
     & every (λ r. isName (programName (t .names) r)) (t .programs)
     & every (λ r. isName (tagName (t .tagNames) r)) (t .tags)
-    & every (λ r. isName (otherName (t .names) r)) (t .others)
+    & every (λ r. isOtherName (otherName (t .names) r)) (t .others)
     & pairs (tagNamesDiffer (t .tagNames)) (t .tags)
     & every (λ r. every (otherNamesDiffer (t .tagNames) (t .names) r) (t .others)) (t .tags)
     & pairs (programNamesDiffer (t .names)) (t .programs)

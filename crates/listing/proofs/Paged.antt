@@ -12,10 +12,11 @@ use Rattle.laws.specs.Tests.{every}
 use Rattle.laws.proofs.Tests.{both-true, among, both-none, every-at}
 use Rattle.definition.specs.Bytes.{le32}
 use Rattle.definition.specs.Tables.{Tables, Row, tagName, tagAccess, otherName}
-use Rattle.definition.specs.Valid.{valid, t1, t2, isName}
+use Rattle.definition.specs.Valid.{valid, t1, t2, isName, isOtherName}
 use Rattle.definition.specs.Page.{idOf}
 use Rattle.definition.specs.Symbols.{Symbol as Defined, tagSymbol, otherSymbol, attributesOf, entryOf, due}
 use Rattle.definition.proofs.Facts.{tag-elements}
+use Rattle.definition.proofs.OtherNames.{other-name-has-at-most-48-bytes}
 use Rattle.model.specs.Least.{nextIn}
 use Rattle.model.specs.Tables.{SomeValid, forPage}
 use Rattle.model.specs.declared.least.Next.{Next}
@@ -125,10 +126,8 @@ module _ (structures tags others : List Row) (names tagNames : List ℕ) (scope 
         rw n (omega (arith, l))
 
     pub other-name : (i id : ℕ) (name : List ℕ) → found ≡ Other i id → name ≡ otherName names (getD others i []) → length name ≤ 4294967295
-    unfolding valid t2 isName
+    unfolding valid t2
     other-name i id name q n =
-        let ok = among (every (λ r. isName (otherName names r)) others) _ (w .ok) (λ e. simp (e, both-none)) in
-        let one = every-at (λ r. isName (otherName names r)) [] others i ok (other-there i id q) in
-        let k = otherName names (getD others i []) in
-        let l = leb-true (length k) 40 (both-true (leb (length k) 40) _ (both-true (ltb 0 (length k)) _ one .1) .0) in
-        rw n (omega (arith, l))
+        let ok = among (every (λ r. isOtherName (otherName names r)) others) _ (w .ok) (λ e. simp (e, both-none)) in
+        let one = every-at (λ r. isOtherName (otherName names r)) [] others i ok (other-there i id q) in
+        rw n (omega (arith, other-name-has-at-most-48-bytes _ one))

@@ -19,7 +19,7 @@ use Rattle.definition.specs.Segment.{Segment as Defined, port, class, instance,
 use Rattle.definition.specs.Request.{noObject, objectOf}
 use Rattle.definition.specs.Tables.{Tables, Row, programName}
 use Rattle.definition.specs.Lookup.{programOf, programIn}
-use Rattle.definition.specs.Names.{sameName, isProgramName, afterPrefix}
+use Rattle.definition.specs.Names.{sameName, isProgramName, afterProgram}
 use Rattle.definition.specs.Valid.{valid, t1}
 use Rattle.definition.specs.Page.{pageReply}
 use Rattle.definition.specs.Symbols.{Start, pageStart, pageFrom, isListed, due, listSymbols}
@@ -103,7 +103,7 @@ pub ruleset starts = (start-none, start-class, start-more, start-well)
 program-by : (programs : List Row) (names name : List ℕ) → Inside (length programs) (programBy programs names name)
 unfolding programBy programIn
 program-by programs names name =
-    pick-all (Inside (length programs)) (isProgramName name) (first-inside (λ r. sameName (programName names r) (afterPrefix name)) programs) tt
+    pick-all (Inside (length programs)) (isProgramName name) (first-inside (λ r. sameName (programName names r) (afterProgram name)) programs) tt
 
 pub program-inside : (programs : List Row) (names name : List ℕ) (k : ℕ) (f : Found) → f ≡ At k → f ≡ foundOf (programBy programs names name)
     → k < length programs

@@ -7,7 +7,7 @@ use lib.ListN.{length}
 use Rattle.laws.specs.Pick.{pick, isSome}
 use Rattle.definition.specs.Bytes.{le16, le32, u16At, counted}
 use Rattle.definition.specs.Reply.{fail, pathUnknown}
-use Rattle.definition.specs.Names.{isProgramName, afterPrefix}
+use Rattle.definition.specs.Names.{isProgramName, afterProgram}
 use Rattle.definition.specs.Tables.{Row, handle, memberCount, templateLength, structureSize}
 use Rattle.definition.specs.Lookup.{programIn, idIn}
 use Rattle.definition.specs.Attributes.{programReference, listReply}
@@ -44,7 +44,7 @@ structureObject r = Structure (handle r) (memberCount r) (templateLength r) (str
 
 -- `programOf`, by the tables that it uses
 unfoldable pub programBy : (programs : List Row) (names name : List ℕ) → Option ℕ
-programBy programs names name = pick (isProgramName name) (programIn programs names (afterPrefix name)) none
+programBy programs names name = pick (isProgramName name) (programIn programs names (afterProgram name)) none
 
 abbrev pub programObject : Option ℕ → Described
 programObject none = Plain

@@ -10,8 +10,8 @@ use Rattle.laws.specs.Pick.{both}
 use Rattle.laws.specs.Tests.{every, everyFrom, pairs}
 use Rattle.laws.proofs.Tests.{equal-tests, both-assoc, regroup, every-both, from-both, from-every, pairs-both}
 use Rattle.definition.specs.Tables.{Tables, Row, structureName, memberName, memberBit, noBit, memberAccess, programName, tagName, tagId, tagAccess, otherName, otherId}
-use Rattle.definition.specs.Valid.{valid, encoded, t1, t2, t3, t4, t5, t6, nameStored, isName, structureEncoded, memberEncoded, tagEncoded, otherEncoded, structureFits, tagFits, endIn, apart, tagNamesDiffer, otherNamesDiffer, idsDiffer}
-use Rattle.rows.specs.Judged.{judged, pairsJudged, fewEnough, counts7, nameJudged, structureNamed, structureJudged, memberJudged, programJudged, tagJudged, otherJudged, tagPair, tagOther}
+use Rattle.definition.specs.Valid.{valid, encoded, t1, t2, t3, t4, t5, t6, nameStored, isName, isOtherName, structureEncoded, memberEncoded, tagEncoded, otherEncoded, structureFits, tagFits, endIn, apart, tagNamesDiffer, otherNamesDiffer, idsDiffer}
+use Rattle.rows.specs.Judged.{judged, pairsJudged, fewEnough, counts7, nameJudged, structureNamed, structureJudged, memberJudged, programJudged, tagJudged, otherNamed, otherJudged, tagPair, tagOther}
 
 -- ---- a table: what the code judges at once is its rules' tests together
 
@@ -38,12 +38,12 @@ module _ (names : List ℕ) (n : ℕ) where
       (both (every (λ r. isName (memberName names r)) rows) (every (λ r. leb (memberBit r) noBit) rows))
   member-rows rows = ap (λ p. every p rows) (fun-ext member-row) ∙ simp every-both
 
-  other-row : (r : Row) → otherJudged names n r ≡ both (otherEncoded (length names) n r) (both (isName (otherName names r)) (ltb 0 (otherId r)))
-  unfolding otherJudged nameJudged otherEncoded
+  other-row : (r : Row) → otherJudged names n r ≡ both (otherEncoded (length names) n r) (both (isOtherName (otherName names r)) (ltb 0 (otherId r)))
+  unfolding otherJudged otherNamed otherEncoded
   other-row r = equal-tests _ _ (λ e. search regroup depth 20) (λ e. search regroup depth 20)
 
   other-rows : (rows : List Row) → every (otherJudged names n) rows
-      ≡ both (every (otherEncoded (length names) n) rows) (both (every (λ r. isName (otherName names r)) rows) (every (λ r. ltb 0 (otherId r)) rows))
+      ≡ both (every (otherEncoded (length names) n) rows) (both (every (λ r. isOtherName (otherName names r)) rows) (every (λ r. ltb 0 (otherId r)) rows))
   other-rows rows = ap (λ p. every p rows) (fun-ext other-row) ∙ simp every-both
 
 program-rows : (names : List ℕ) (rows : List Row)

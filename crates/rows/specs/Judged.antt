@@ -8,9 +8,9 @@ use lib.ListN.{length}
 use Rattle.laws.specs.Pick.{pick, both}
 use Rattle.laws.specs.Tests.{every, everyFrom, pairs}
 use Rattle.definition.specs.Bytes.{part}
-use Rattle.definition.specs.Tables.{Tables, Row, field, templateId, handle, firstMember, memberCount, isAoi, memberType, memberBit, noBit, isHidden, isLocal, memberAccess, tagScope, tagId, tagAccess, isAlias, otherScope, otherId, otherType}
+use Rattle.definition.specs.Tables.{Tables, Row, field, templateId, handle, firstMember, memberCount, isAoi, memberType, memberBit, noBit, isHidden, isLocal, memberAccess, tagScope, tagId, tagAccess, isAlias, otherScope, otherName, otherId, otherType}
 use Rattle.definition.specs.Types.{DWORD}
-use Rattle.definition.specs.Valid.{isMark, isType, is16, isName, tagNamesDiffer, otherNamesDiffer, programNamesDiffer, idsDiffer, structureFits, tagFits, endIn, apart}
+use Rattle.definition.specs.Valid.{symbolNameStored, isMark, isType, is16, isName, isOtherName, tagNamesDiffer, otherNamesDiffer, programNamesDiffer, idsDiffer, structureFits, tagFits, endIn, apart}
 
 -- a name that stands in its store and is one
 unfoldable pub nameJudged : (store : List ℕ) (start size : ℕ) → Bool
@@ -39,9 +39,12 @@ tagJudged structures tagNames programs memory r =
     both (leb (tagScope r) programs) (both (nameJudged tagNames (field 1 r) (field 2 r)) (both (isMark (isAlias r)) (both (leb (tagAccess r) 3)
     (both (ltb 0 (tagId r)) (both (tagFits (length structures) r) (leb (endIn structures r) memory))))))
 
+unfoldable pub otherNamed : (names : List ℕ) → Row → Bool
+otherNamed names r = both (symbolNameStored (length names) r) (isOtherName (otherName names r))
+
 unfoldable pub otherJudged : (names : List ℕ) (programs : ℕ) → Row → Bool
 otherJudged names programs r =
-    both (leb (otherScope r) programs) (both (nameJudged names (field 1 r) (field 2 r)) (both (is16 (otherType r)) (ltb 0 (otherId r))))
+    both (leb (otherScope r) programs) (both (otherNamed names r) (both (is16 (otherType r)) (ltb 0 (otherId r))))
 
 -- ---- two rows
 

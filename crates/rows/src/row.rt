@@ -40,6 +40,7 @@ use model::columns::TAG_SCOPE;
 use model::columns::TAG_TYPE;
 use model::columns::TEMPLATE_LENGTH;
 use model::columns::TEMPLATE_START;
+use model::lookup::part_of;
 use model::types::FIRST_STRUCTURE;
 ghost use mathlib.Core.Path.{_≡_};
 ghost use Prim.Native.Nat.{_+_, _*_, _≤_, _<_, max};
@@ -47,10 +48,11 @@ ghost use lib.Dec.{ltb, leb, eqb};
 ghost use lib.ListN.{length};
 ghost use Rattle.laws.specs.Pick.{both};
 ghost use Rattle.laws.specs.Tests.{every};
+ghost use Rattle.definition.specs.Names.{startsWith};
 ghost use Rattle.definition.specs.Tables.{firstMember, memberCount, tagLengths};
-ghost use Rattle.definition.specs.Valid.{isName, isType, memberFits, structureFits, zerosLast, tagFits, endIn};
+ghost use Rattle.definition.specs.Valid.{isName, otherLength, isOtherName, isType, memberFits, structureFits, zerosLast, tagFits, endIn};
 ghost use Rattle.definition.specs.Breach.{nameLength, nameBytes, hasElements, endsWithin};
-ghost use Rattle.rows.specs.Judged.{nameJudged, structureNamed, structureJudged, memberJudged, programJudged, tagJudged, otherJudged, zerosLast3, product3, boolArray3};
+ghost use Rattle.rows.specs.Judged.{nameJudged, structureNamed, structureJudged, memberJudged, programJudged, tagJudged, otherNamed, otherJudged, zerosLast3, product3, boolArray3};
 
 fn is_printable(b: u8) -> bool
     ensures { λ r. ⌜ r ≡ both (leb 0x20 b) (leb b 0x7E) ⌝ }
@@ -91,6 +93,54 @@ pub fn is_name(name: &[u8]) -> bool
     ensures { λ r. ⌜ r ≡ isName (now (name .entry)) ⌝ }
 {
     if !name_length(name) {
+        return false;
+    }
+    name_bytes(name)
+}
+
+const PROGRAM_PREFIX: [u8; 8] = *b"program:";
+
+const ROUTINE_PREFIX: [u8; 8] = *b"routine:";
+
+const TASK_PREFIX: [u8; 5] = *b"task:";
+
+/// A name's first bytes are a prefix's, case ignored.
+fn starts_with(name: &[u8], prefix: &[u8]) -> bool
+    ensures { λ r. ⌜ r ≡ startsWith (now (prefix .entry)) (now (name .entry)) ⌝ }
+{
+    if name.len() < prefix.len() {
+        return false;
+    }
+    path::same_name(&name[..prefix.len()], prefix)
+}
+
+/// P2: 0 to 40 bytes behind a prefix, 1 to 40 in all without one. A name of 1 to 40 bytes is short enough with a prefix too.
+pub fn other_length(name: &[u8]) -> bool
+    ensures { λ r. ⌜ r ≡ otherLength (now (name .entry)) ⌝ }
+{
+    if name_length(name) {
+        return true;
+    }
+    let program = PROGRAM_PREFIX;
+    if starts_with(name, &program) {
+        return name.len() <= 48;
+    }
+    let routine = ROUTINE_PREFIX;
+    if starts_with(name, &routine) {
+        return name.len() <= 48;
+    }
+    let task = TASK_PREFIX;
+    if starts_with(name, &task) {
+        return name.len() <= 45;
+    }
+    false
+}
+
+/// The same of an other symbol's name.
+pub fn is_other_name(name: &[u8]) -> bool
+    ensures { λ r. ⌜ r ≡ isOtherName (now (name .entry)) ⌝ }
+{
+    if !other_length(name) {
         return false;
     }
     name_bytes(name)
@@ -420,6 +470,16 @@ pub fn tag_judged(
     tag_within(row, structures, memory)
 }
 
+/// Another symbol's name stands in its store and is one.
+fn other_named(row: &[u32; 5], names: &[u8]) -> bool
+    ensures { λ r. ⌜ r ≡ otherNamed (now (names .entry)) (now (row .entry)) ⌝ }
+{
+    if !within(row[OTHER_NAME_START], row[OTHER_NAME_LENGTH], names.len()) {
+        return false;
+    }
+    is_other_name(part_of(names, row[OTHER_NAME_START], row[OTHER_NAME_LENGTH]))
+}
+
 /// Another symbol's row by itself.
 pub fn other_judged(row: &[u32; 5], names: &[u8], programs: usize) -> bool
     ensures { λ r. ⌜ r ≡ otherJudged (now (names .entry)) programs (now (row .entry)) ⌝ }
@@ -427,7 +487,7 @@ pub fn other_judged(row: &[u32; 5], names: &[u8], programs: usize) -> bool
     if numbers::wide(row[OTHER_SCOPE]) > programs {
         return false;
     }
-    if !name_judged(names, row[OTHER_NAME_START], row[OTHER_NAME_LENGTH]) {
+    if !other_named(row, names) {
         return false;
     }
     if !fits16(row[OTHER_TYPE]) {

@@ -24,7 +24,7 @@ FlagsIn word f =
 abbrev pub SmallHead : Head → Type 0
 SmallHead h =
     (h .structures ≤ 64) × (h .members ≤ 512) × (h .programs ≤ 16) × (h .tags ≤ 1024) × (h .others ≤ 64)
-    × (h .names ≤ 26240) × (h .«tag_names» ≤ 40960) × (h .templates ≤ 65536) × (h .memory ≤ 65536)
+    × (h .names ≤ 26752) × (h .«tag_names» ≤ 40960) × (h .templates ≤ 65536) × (h .memory ≤ 65536)
 
 -- the head and the rows
 abbrev pub rowsSize : Head → ℕ

@@ -103,7 +103,7 @@ fn few(h: Head) -> bool
     if over(h.others, b"other symbols", 64) {
         return false;
     }
-    if over(h.names, b"bytes of names", 26240) {
+    if over(h.names, b"bytes of names", 26752) {
         return false;
     }
     if over(h.tag_names, b"bytes of tag names", 40960) {

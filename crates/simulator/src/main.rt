@@ -13,7 +13,7 @@ use input::options::Argument;
 use input::options::Options;
 
 /// One byte more than the largest image, so that rest bytes show.
-const MOST: usize = 269873;
+const MOST: usize = 270385;
 
 fn serve_file(name: &[u8], o: Options) {
     let fd = os::open_read(name);

@@ -401,7 +401,7 @@ fn other_passes(n: usize, row: &[u32; 5], names: &[u8], programs: usize) -> bool
 {
     match n {
         0 => row::within(row[OTHER_NAME_START], row[OTHER_NAME_LENGTH], names.len()),
-        1 => row::name_length(part_of(names, row[OTHER_NAME_START], row[OTHER_NAME_LENGTH])),
+        1 => row::other_length(part_of(names, row[OTHER_NAME_START], row[OTHER_NAME_LENGTH])),
         2 => row::name_bytes(part_of(names, row[OTHER_NAME_START], row[OTHER_NAME_LENGTH])),
         3 => wide(row[OTHER_SCOPE]) <= programs,
         4 => row::fits16(row[OTHER_TYPE]),

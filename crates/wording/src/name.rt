@@ -3,8 +3,8 @@ use crate::out;
 use cip::numbers::wide;
 use model::lookup::part_of;
 
-/// A longer name is cut here, so that a wrong length does not fill the screen.
-const SHOWN: usize = 40;
+/// The longest name that is one, of an other symbol with its prefix. A longer one is cut here, so that a wrong length does not fill the screen.
+const SHOWN: usize = 48;
 
 /// The word of a row at which its name starts; the word behind it is the name's length.
 const NAME: usize = 0;

@@ -1,4 +1,5 @@
 // The words of each rule. Its number is 100 times the number of its T; the numbers below 100 are of the rows' encoding.
+use crate::OTHERS;
 use crate::PROGRAMS;
 use crate::TAGS;
 use crate::out;
@@ -45,10 +46,20 @@ fn t1(fd: i32, rule: u32, row: usize) {
     }
 }
 
-fn t2(fd: i32, rule: u32) {
+fn name_length(fd: i32, table: u32) {
+    out::text(fd, b"its name has no or more than 40 bytes");
+    if table == OTHERS {
+        out::text(
+            fd,
+            b", not counting Program:, Routine: or Task: before them",
+        );
+    }
+}
+
+fn t2(fd: i32, rule: u32, table: u32) {
     out::text(fd, b"T2: ");
     match rule {
-        201 => out::text(fd, b"its name has no or more than 40 bytes"),
+        201 => name_length(fd, table),
         202 => out::text(fd, b"its name has a byte below 0x20 or above 0x7E"),
         203 => out::text(fd, b"the same name, case ignored, as"),
         _ => unknown(fd),
@@ -110,7 +121,7 @@ pub fn of_rule(fd: i32, rule: u32, table: u32, row: usize) {
     match rule / 100 {
         0 => encoding(fd, rule, table),
         1 => t1(fd, rule, row),
-        2 => t2(fd, rule),
+        2 => t2(fd, rule, table),
         3 => t3(fd, rule),
         4 => t4(fd, rule),
         5 => t5(fd, rule),

@@ -1,7 +1,8 @@
 -- The arm of a number answers what the rule at that place of `otherRules` answers of the row; behind the last rule every row passes.
 use mathlib.Core.Path.{_∙_, ap}
 use Rattle.laws.proofs.Chain.{some-is}
-use Rattle.definition.specs.Breach.{otherRules, nameLength, nameBytes}
+use Rattle.definition.specs.Valid.{otherLength}
+use Rattle.definition.specs.Breach.{otherRules, nameBytes}
 use Rattle.tables.proofs.Leaves.{past-rules}
 use borrow.Author.Needs.{needs}
 use Rattle.tables.proofs.rules.other_passes.Statement.{statement}
@@ -17,7 +18,7 @@ returns-2 : tie.Need-returns-2
 unfolding otherRules
 returns-2 c =
     let match = c .before .before .before .before .match in
-    rw (match .keys2) (c .name-length .ensures ∙ ap nameLength (c .before .part-of .ensures))
+    rw (match .keys2) (c .other-length .ensures ∙ ap otherLength (c .before .part-of .ensures))
 
 returns-3 : tie.Need-returns-3
 unfolding otherRules

@@ -1,4 +1,4 @@
--- What is cut off lies behind 40 bytes, so the part stands in the name.
+-- What is cut off lies behind 48 bytes, so the part stands in the name.
 use mathlib.Core.Path.{sym}
 use lib.Seq.{length-take-le}
 use borrow.Author.Needs.{needs}
@@ -8,7 +8,7 @@ use Rattle.wording.proofs.name.cut.Tie as tie
 slice-aggregate-signs : tie.Need-slice-aggregate-signs
 slice-aggregate-signs c =
     let args = c .before .before .before .args in
-    sym (length-take-le 40 (args .name .now) (search needs))
+    sym (length-take-le 48 (args .name .now) (search needs))
 
 pub cut-spec : {M : Type 1} → statement M
 cut-spec =

@@ -1,0 +1,31 @@
+-- All there is to show is that it ends and stays in bounds: each pass moves on by a byte, up to the end.
+use Prim.Native.Nat.{_≤_, _-_}
+use lib.ListN.{length}
+use borrow.Author.Needs.{needs}
+use Rattle.worked.proofs.long_pages.hex.Statement.{statement}
+use Rattle.worked.proofs.long_pages.hex.Tie as tie
+
+abbrev Inv-loop : tie.InvT-loop
+Inv-loop s n i₀ t4 t5 i = i ≤ length s
+
+abbrev μ-loop : tie.MeasureT-loop
+μ-loop s n i₀ t4 t5 i = length s - i
+
+pub hex-spec : {M : Type 1} → statement M
+hex-spec =
+    tie.close
+    (tie.spec
+    Inv-loop
+    μ-loop
+    (λ c. search needs)
+    (λ c. search needs)
+    (λ c κs. search needs)
+    (λ c. search needs)
+    (λ c κs. search needs)
+    (λ c κs. search needs)
+    (λ c. search needs)
+    (λ c. search needs)
+    (λ c. search needs)
+    (λ c. search needs)
+    (λ c κs. search needs)
+    (λ c. search needs))

@@ -1,0 +1,10 @@
+// The worked examples of document 02's requests, a line each: what is asked, and what is answered.
+mod long_names;
+mod long_pages;
+
+fn main() {
+    long_names::other_symbols();
+    long_names::other_tables();
+    long_pages::bottling_hall();
+    long_pages::tasks();
+}
