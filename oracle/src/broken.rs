@@ -46,8 +46,8 @@ static BREAKS: [Kind; 74] = [
     kind("T2 tag name byte", &[(202, 4, 0)], |r, s| odd_name(r, s, 4)),
     kind("T2 other name byte", &[(202, 5, 0)], |r, s| odd_name(r, s, 5)),
     kind("T2 other name byte behind a prefix", &[(202, 5, 0)], odd_behind),
-    // names of all four tables may have the byte
-    kind("T2 a byte of the names", &[(202, 1, 0), (202, 2, 0), (202, 3, 0), (202, 5, 0)], |r, s| {
+    // names of all four tables may have the byte; in the prefix of an other symbol's it makes the name too long
+    kind("T2 a byte of the names", &[(202, 1, 0), (202, 2, 0), (202, 3, 0), (202, 5, 0), (201, 5, 0)], |r, s| {
         odd_byte(r, s, &[1, 2, 3, 5])
     }),
     kind("T2 a byte of the tags' names", &[(202, 4, 0)], |r, s| odd_byte(r, s, &[4])),

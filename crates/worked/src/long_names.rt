@@ -2,6 +2,11 @@
 use cip::numbers;
 use libc::STDOUT_FILENO;
 use tables::rules::Told;
+use wording::MEMBERS;
+use wording::OTHERS;
+use wording::PROGRAMS;
+use wording::STRUCTURES;
+use wording::TAGS;
 use wording::out;
 
 /// A store that starts with a name, and the name's length.
@@ -80,16 +85,62 @@ fn judge(
     }
 }
 
-/// Judges an other symbol of this name.
-fn other(n: Name) {
-    let structures = [[0u32; 10]; 0];
-    let members = [[0u32; 9]; 0];
-    let programs = [[0u32; 2]; 0];
-    let tags = [[0u32; 12]; 0];
+/// Judges a table set whose one row, in this table, has a name.
+fn only(table: u32, n: Name) {
     let length = n.length;
-    let others = [[0, 0, length, 9, 0x1068]];
     let store = n.store;
-    judge(&structures, &members, &programs, &tags, &others, &store);
+    let no_structure = [[0u32; 10]; 0];
+    let no_member = [[0u32; 9]; 0];
+    let no_program = [[0u32; 2]; 0];
+    let no_tag = [[0u32; 12]; 0];
+    let no_other = [[0u32; 5]; 0];
+    match table {
+        STRUCTURES => {
+            let rows = [[0, length, 0x100, 0x1234, 4, 0, 0, 0, 0, 0]];
+            judge(&rows, &no_member, &no_program, &no_tag, &no_other, &store);
+        }
+        MEMBERS => {
+            let rows = [[0, length, 0xC4, 0, 0, 8, 0, 0, 0]];
+            judge(
+                &no_structure,
+                &rows,
+                &no_program,
+                &no_tag,
+                &no_other,
+                &store,
+            );
+        }
+        PROGRAMS => {
+            let rows = [[0, length]];
+            judge(&no_structure, &no_member, &rows, &no_tag, &no_other, &store);
+        }
+        TAGS => {
+            let rows = [[0, 0, length, 9, 0xC4, 0, 0, 0, 1, 0, 0, 0]];
+            judge(
+                &no_structure,
+                &no_member,
+                &no_program,
+                &rows,
+                &no_other,
+                &store,
+            );
+        }
+        _ => {
+            let rows = [[0, 0, length, 9, 0x1068]];
+            judge(
+                &no_structure,
+                &no_member,
+                &no_program,
+                &no_tag,
+                &rows,
+                &store,
+            );
+        }
+    }
+}
+
+fn other(n: Name) {
+    only(OTHERS, n);
 }
 
 /// Names that an other symbol may have.
@@ -133,56 +184,11 @@ pub fn other_symbols() {
     no_names();
 }
 
-/// A tag of this name.
-fn tag(n: Name) {
-    let structures = [[0u32; 10]; 0];
-    let members = [[0u32; 9]; 0];
-    let programs = [[0u32; 2]; 0];
-    let length = n.length;
-    let tags = [[0, 0, length, 9, 0xC4, 0, 0, 0, 1, 0, 0, 0]];
-    let others = [[0u32; 5]; 0];
-    let store = n.store;
-    judge(&structures, &members, &programs, &tags, &others, &store);
-}
-
-fn program(n: Name) {
-    let structures = [[0u32; 10]; 0];
-    let members = [[0u32; 9]; 0];
-    let length = n.length;
-    let programs = [[0, length]];
-    let tags = [[0u32; 12]; 0];
-    let others = [[0u32; 5]; 0];
-    let store = n.store;
-    judge(&structures, &members, &programs, &tags, &others, &store);
-}
-
-fn structure(n: Name) {
-    let length = n.length;
-    let structures = [[0, length, 0x100, 0x1234, 4, 0, 0, 0, 0, 0]];
-    let members = [[0u32; 9]; 0];
-    let programs = [[0u32; 2]; 0];
-    let tags = [[0u32; 12]; 0];
-    let others = [[0u32; 5]; 0];
-    let store = n.store;
-    judge(&structures, &members, &programs, &tags, &others, &store);
-}
-
-fn member(n: Name) {
-    let structures = [[0u32; 10]; 0];
-    let length = n.length;
-    let members = [[0, length, 0xC4, 0, 0, 8, 0, 0, 0]];
-    let programs = [[0u32; 2]; 0];
-    let tags = [[0u32; 12]; 0];
-    let others = [[0u32; 5]; 0];
-    let store = n.store;
-    judge(&structures, &members, &programs, &tags, &others, &store);
-}
-
 /// The same name in each table: only the other symbol may have it.
 pub fn other_tables() {
     other(named(b"Program:", 33, b'q'));
-    tag(named(b"Program:", 33, b'q'));
-    program(named(b"Program:", 33, b'q'));
-    structure(named(b"Program:", 33, b'q'));
-    member(named(b"Program:", 33, b'q'));
+    only(TAGS, named(b"Program:", 33, b'q'));
+    only(PROGRAMS, named(b"Program:", 33, b'q'));
+    only(STRUCTURES, named(b"Program:", 33, b'q'));
+    only(MEMBERS, named(b"Program:", 33, b'q'));
 }
