@@ -132,34 +132,34 @@ typedef struct {
 } ciplink_told;
 
 /* Each rule in words. */
-#define CIPLINK_RULES(RULE)                                                                     \
-  RULE(1, "encoding: its name does not stand in the store of names")                            \
-  RULE(2, "encoding: its scope is no program's")                                                \
-  RULE(3, "encoding: its type is neither an atomic code nor a structure in the tables")         \
-  RULE(4, "encoding: its template ID exceeds 65535")                                            \
-  RULE(5, "encoding: its handle exceeds 65535")                                                 \
-  RULE(6, "encoding: its symbol type exceeds 65535")                                            \
-  RULE(7, "encoding: its members do not stand in the member table")                             \
-  RULE(8, "encoding: its AOI mark is not 0 or 1")                                               \
-  RULE(9, "encoding: its hidden mark is not 0 or 1")                                            \
-  RULE(10, "encoding: its local mark is not 0 or 1")                                            \
-  RULE(11, "encoding: its alias mark is not 0 or 1")                                            \
-  RULE(101, "T1: there are more than the controller takes")                                     \
-  RULE(102, "T1: its access is not 0 to 3")                                                     \
-  RULE(201, "T2: its name has no or more than 40 bytes (an other symbol's: behind its prefix)") \
-  RULE(202, "T2: its name has a byte below 0x20 or above 0x7E")                                 \
-  RULE(203, "T2: the same name, case ignored, as another program, or symbol of its scope")      \
-  RULE(301, "T3: its ID is 0")                                                                  \
-  RULE(302, "T3: the same ID as another row in the same scope")                                 \
-  RULE(401, "T4: it has no or more than 65535 bytes")                                           \
-  RULE(402, "T4: its template does not stand in the template store")                            \
-  RULE(403, "T4: its bit is not 0 to 7, or 8 for none")                                         \
-  RULE(404, "T4: its type is neither atomic nor of an earlier structure than its own")          \
-  RULE(405, "T4: it does not end inside its structure")                                         \
-  RULE(501, "T5: its type is neither an atomic code nor a structure in the tables")             \
-  RULE(502, "T5: a length of 0 has a length behind it")                                         \
-  RULE(503, "T5: its elements are not the product of its lengths")                              \
-  RULE(601, "T6: its bytes do not end in tag memory")                                           \
+#define CIPLINK_RULES(RULE)                                                                      \
+  RULE(1, "encoding: its name does not stand in the store of names")                             \
+  RULE(2, "encoding: its scope is no program's")                                                 \
+  RULE(3, "encoding: its type is neither an atomic code nor a structure in the tables")          \
+  RULE(4, "encoding: its template ID exceeds 65535")                                             \
+  RULE(5, "encoding: its handle exceeds 65535")                                                  \
+  RULE(6, "encoding: its symbol type exceeds 65535")                                             \
+  RULE(7, "encoding: its members do not stand in the member table")                              \
+  RULE(8, "encoding: its AOI mark is not 0 or 1")                                                \
+  RULE(9, "encoding: its hidden mark is not 0 or 1")                                             \
+  RULE(10, "encoding: its local mark is not 0 or 1")                                             \
+  RULE(11, "encoding: its alias mark is not 0 or 1")                                             \
+  RULE(101, "T1: there are more than the controller takes")                                      \
+  RULE(102, "T1: its access is not 0 to 3")                                                      \
+  RULE(201, "T2: its name has no bytes, or more than 40 (an other symbol's without its prefix)") \
+  RULE(202, "T2: its name has a byte below 0x20 or above 0x7E")                                  \
+  RULE(203, "T2: the same name, case ignored, as another program, or symbol of its scope")       \
+  RULE(301, "T3: its ID is 0")                                                                   \
+  RULE(302, "T3: the same ID as another row in the same scope")                                  \
+  RULE(401, "T4: it has no or more than 65535 bytes")                                            \
+  RULE(402, "T4: its template does not stand in the template store")                             \
+  RULE(403, "T4: its bit is not 0 to 7, or 8 for none")                                          \
+  RULE(404, "T4: its type is neither atomic nor of an earlier structure than its own")           \
+  RULE(405, "T4: it does not end inside its structure")                                          \
+  RULE(501, "T5: its type is neither an atomic code nor a structure in the tables")              \
+  RULE(502, "T5: a length of 0 has a length behind it")                                          \
+  RULE(503, "T5: its elements are not the product of its lengths")                               \
+  RULE(601, "T6: its bytes do not end in tag memory")                                            \
   RULE(602, "T6: it shares a byte with another row")
 
 static inline const char *ciplink_rule_text(uint64_t rule) {

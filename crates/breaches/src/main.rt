@@ -7,7 +7,6 @@ mod edits;
 use crate::edits::Edit;
 use cip::numbers::wide;
 use libc::STDOUT_FILENO;
-use tables::rules::Told;
 use wording::MEMBERS;
 use wording::OTHERS;
 use wording::PROGRAMS;
@@ -22,45 +21,6 @@ fn text(s: &[u8]) {
 
 fn number(n: usize) {
     io::print_decimal(STDOUT_FILENO, n as u64);
-}
-
-/// Judges a table set.
-fn tell(
-    structures: &[[u32; 10]],
-    members: &[[u32; 9]],
-    programs: &[[u32; 2]],
-    tags: &[[u32; 12]],
-    others: &[[u32; 5]],
-    names: &[u8],
-    tag_names: &[u8],
-    templates: &[u8],
-    memory: &[u8],
-) {
-    let told = tables::breach(
-        structures,
-        members,
-        programs,
-        tags,
-        others,
-        names,
-        tag_names,
-        templates,
-        memory,
-    );
-    match told {
-        Told::Fine => text(b"fine\n"),
-        Told::Broken(b) => wording::say(
-            STDOUT_FILENO,
-            b,
-            structures,
-            members,
-            programs,
-            tags,
-            others,
-            names,
-            tag_names,
-        ),
-    }
 }
 
 /// How many rows or bytes of a table are there: those of the base, or one more than T1 allows.
@@ -95,7 +55,8 @@ fn judge(e: Edit) {
     let o = count(e, OTHERS, 3, 65);
     let k = count(e, TEMPLATE_STORE, 24, 65537);
     let b = count(e, TAG_MEMORY, 88, 65537);
-    tell(
+    wording::tell(
+        STDOUT_FILENO,
         &structures[..s],
         &members[..m],
         &programs[..p],

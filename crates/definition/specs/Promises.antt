@@ -1,5 +1,5 @@
--- Theorems about the definition, each a named statement; proofs/Theorems, Granted, Inside, Stored and OtherNames prove them. Points 1 to 3 are those of document 00:
--- the first part is point 1, and what points 2 and 3 lean on follows.
+-- Theorems about the definition, each a named statement; proofs/Theorems, Granted, Inside, Stored and OtherNames prove them.
+-- Points 1 to 3 are those of document 00: the first part is point 1, and what points 2 and 3 lean on follows; then what document 02 adds.
 use mathlib.Core.Path.{_≡_}
 use mathlib.Core.Logic.{_≢_, _↔_, _⊎_}
 use mathlib.Core.Bool.{Bool, true, false}

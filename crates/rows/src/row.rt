@@ -136,7 +136,7 @@ pub fn other_length(name: &[u8]) -> bool
     false
 }
 
-/// The same of an other symbol's name.
+/// An other symbol's name: as many bytes as it may have, each 0x20 to 0x7E.
 pub fn is_other_name(name: &[u8]) -> bool
     ensures { λ r. ⌜ r ≡ isOtherName (now (name .entry)) ⌝ }
 {

@@ -5,6 +5,7 @@ pub mod out;
 mod words;
 
 use tables::rules::Breach;
+use tables::rules::Told;
 
 // The tables by number, as `Breach` names them; tag memory and the template store have bytes and no rows.
 pub const NO_TABLE: u32 = 0;
@@ -171,4 +172,44 @@ pub fn say(
         tag_names,
     );
     out::text(fd, b"\n");
+}
+
+/// One line on a table set: that it is valid, or where it breaks a rule first.
+pub fn tell(
+    fd: i32,
+    structures: &[[u32; 10]],
+    members: &[[u32; 9]],
+    programs: &[[u32; 2]],
+    tags: &[[u32; 12]],
+    others: &[[u32; 5]],
+    names: &[u8],
+    tag_names: &[u8],
+    templates: &[u8],
+    memory: &[u8],
+) {
+    let told = tables::breach(
+        structures,
+        members,
+        programs,
+        tags,
+        others,
+        names,
+        tag_names,
+        templates,
+        memory,
+    );
+    match told {
+        Told::Fine => out::text(fd, b"valid\n"),
+        Told::Broken(b) => say(
+            fd,
+            b,
+            structures,
+            members,
+            programs,
+            tags,
+            others,
+            names,
+            tag_names,
+        ),
+    }
 }

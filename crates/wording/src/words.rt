@@ -46,14 +46,14 @@ fn t1(fd: i32, rule: u32, row: usize) {
     }
 }
 
+/// Of an other symbol's name a prefix is not counted, and is enough by itself.
 fn name_length(fd: i32, table: u32) {
-    out::text(fd, b"its name has no or more than 40 bytes");
     if table == OTHERS {
-        out::text(
-            fd,
-            b", not counting Program:, Routine: or Task: before them",
-        );
+        out::text(fd, b"its name has no bytes, or more than 40, not counting ");
+        out::text(fd, b"Program:, Routine: or Task: before them");
+        return;
     }
+    out::text(fd, b"its name has no or more than 40 bytes");
 }
 
 fn t2(fd: i32, rule: u32, table: u32) {

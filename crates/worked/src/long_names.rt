@@ -1,7 +1,6 @@
 // P2: which names an other symbol may have, and that rows of other tables may have none that is longer than before.
 use cip::numbers;
 use libc::STDOUT_FILENO;
-use tables::rules::Told;
 use wording::MEMBERS;
 use wording::OTHERS;
 use wording::PROGRAMS;
@@ -58,7 +57,8 @@ fn judge(
 ) {
     let templates = [0u8; 0];
     let memory = [0u8; 4];
-    let told = tables::breach(
+    wording::tell(
+        STDOUT_FILENO,
         structures,
         members,
         programs,
@@ -69,20 +69,6 @@ fn judge(
         &templates,
         &memory,
     );
-    match told {
-        Told::Fine => out::text(STDOUT_FILENO, b"valid\n"),
-        Told::Broken(b) => wording::say(
-            STDOUT_FILENO,
-            b,
-            structures,
-            members,
-            programs,
-            tags,
-            others,
-            names,
-            names,
-        ),
-    }
 }
 
 /// Judges a table set whose one row, in this table, has a name.
