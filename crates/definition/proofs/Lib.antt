@@ -3,6 +3,7 @@ pub mod Breaches
 pub mod Cut
 pub mod Enters
 pub mod Facts
+pub mod FormerSegment
 pub mod Granted
 pub mod Inside
 pub mod Lengths

@@ -1,6 +1,7 @@
 -- Document 01, "Segment": the 256 first bytes, the segment at a position of a path, and a path's segments.
 -- CIP Volume 1, Appendix C, sections on segments (port, logical, ANSI extended symbol) and padded EPATHs, defines the encodings; which of
--- them are taken, and that a pad may hold anything, is document 01's.
+-- them are taken, and that a pad may hold anything, is document 01's. The steps stand in the volume's order, as document 02 asks: the
+-- segment type, then the format, then the value with its pad; ports are excepted.
 use mathlib.Core.List.{List, map}
 use mathlib.Core.Option.{Option, none, some}
 use Prim.Native.Nat.{ℕ, _+_, _%_}
@@ -20,12 +21,12 @@ pub data Segment : Type 0 where
   attribute : ℕ → Segment
   symbol : (name : List ℕ) → Segment
 
--- ---- the kind of a segment by its first byte
+-- ---- the segment type: what kind of segment a first byte begins, a logical one with its logical type
 
 pub data Kind : Type 0 where
   portKind classKind instanceKind elementKind attributeKind symbolKind noKind : Kind
 
--- 0x20 to 0x3F, masked with 0x1C [CIP]
+-- bits 4 to 2 of a logical segment's first byte [CIP]
 abbrev pub logicalType : ℕ → Kind
 logicalType t =
     pick (eqb t 0x00) classKind
@@ -33,18 +34,20 @@ logicalType t =
     (pick (eqb t 0x08) elementKind
     (pick (eqb t 0x10) attributeKind noKind)))
 
--- the low two bits of a logical segment give its value's form: 0, 1 and 2, and 3 is invalid [CIP]
-abbrev pub form : ℕ → ℕ
-form b = b % 4
-
--- [CIP]
+-- below 0x20 a port, below 0x40 a logical segment, 0x91 a symbol [CIP]
 unfoldable pub kindOf : ℕ → Kind
 kindOf b =
     pick (ltb b 0x20) portKind
-    (pick (ltb b 0x40) (pick (eqb (form b) 3) noKind (logicalType (bitAnd b 0x1C)))
+    (pick (ltb b 0x40) (logicalType (bitAnd b 0x1C))
     (pick (eqb b 0x91) symbolKind noKind))
 
--- ---- the segment at a position, with the position where the next one starts; `cut`: invalid, or the path ends inside it
+-- ---- the format: in which form a logical segment's value is written
+
+-- bits 1 and 0 of its first byte [CIP]
+abbrev pub form : ℕ → ℕ
+form b = b % 4
+
+-- ---- the value with its pad: the segment, with the position where the next one starts; `cut`: invalid, or the path ends inside it
 
 pub data Step : Type 0 where
   step : Segment → (next : ℕ) → Step
@@ -54,18 +57,20 @@ pub data Step : Type 0 where
 abbrev pub within : (path : List ℕ) (at need : ℕ) → Segment → Step
 within path at need s = pick (leb (at + need) (length path)) (step s (at + need)) cut
 
--- form 0: an 8-bit value; 1: a pad and 16 bits; 2: a pad and 32 bits [CIP]
+-- form 0: an 8-bit value; 1: a pad and 16 bits; 2: a pad and 32 bits; 3 is reserved [CIP]
 unfoldable pub logicalAt : (path : List ℕ) (at : ℕ) (f : ℕ) → (ℕ → Segment) → Step
 logicalAt path at f make =
     pick (eqb f 0) (within path at 1 (make (getD path at 0)))
     (pick (eqb f 1) (within path at 3 (make (u16At path (at + 1))))
-    (within path at 5 (make (u32At path (at + 1)))))
+    (pick (eqb f 2) (within path at 5 (make (u32At path (at + 1)))) cut))
 
 -- a size byte, as many bytes, a pad if odd [CIP]
 unfoldable pub sizedAt : (path : List ℕ) (at : ℕ) → (List ℕ → Segment) → Step
 sizedAt path at make =
     let n = getD path at 0 in
     pick (ltb at (length path)) (within path (at + 1) (n + n % 2) (make (part path (at + 1) n))) cut
+
+-- ---- ports, in steps of their own
 
 -- behind a port's number: the link with its size (bit 0x10), or one link byte [CIP]
 unfoldable pub linkAt : (path : List ℕ) (at b : ℕ) → Step
@@ -74,6 +79,8 @@ linkAt path at b = pick (ltb b 0x10) (within path at 1 port) (sizedAt path at (�
 -- a port number of 15 means that a 16-bit number follows, before anything else [CIP]
 unfoldable pub portAt : (path : List ℕ) (at b : ℕ) → Step
 portAt path at b = pick (eqb (b % 16) 15) (linkAt path (at + 2) b) (linkAt path at b)
+
+-- ---- the segment at a position
 
 -- what follows the first byte b, from `at` on [CIP]
 abbrev pub byKind : Kind → (path : List ℕ) (at b : ℕ) → Step

@@ -7,11 +7,16 @@ use lib.ListN.{length, getD}
 use borrow.Author.Tests.{lt-ltb}
 use Rattle.path.specs.Decode.{entryOf, logicalOf, byEntry, decodedAt}
 use Rattle.path.specs.declared.Segment.{Segment}
-use Rattle.path.specs.declared.LogicalValue.{LogicalValue}
-use Rattle.path.specs.declared.LogicalValue.the-variants.{Of}
+use Rattle.path.specs.declared.Segment.the-variants.{Invalid}
+use Rattle.path.specs.declared.Value.{Value}
+use Rattle.path.specs.declared.Value.the-variants.{Of, Cut}
 
-pub logical-case : (k x n : ℕ) (v : LogicalValue) (r : Segment) → v ≡ Of x n → r ≡ logicalOf k (Of x n) → r ≡ logicalOf k v
-logical-case k x n v r e p = rw e p
+module _ (k : ℕ) (v w : Value) (r : Segment) (found : v ≡ w) where
+  pub logical-case : (x next : ℕ) → v ≡ Of x next → r ≡ logicalOf k (Of x next) → r ≡ logicalOf k w
+  logical-case x next e p = rw (← found, e) p
+
+  pub cut-case : v ≡ Cut → r ≡ Invalid → r ≡ logicalOf k w
+  cut-case e p = rw (← found, e) p
 
 pub decode-case : (s : List ℕ) (at e : ℕ) (r : Segment) → at < length s → e ≡ entryOf (getD s at 0) → r ≡ byEntry s (at + 1) e → r ≡ decodedAt s at
 unfolding decodedAt

@@ -18,8 +18,8 @@ use Rattle.path.specs.Decode.{kindNumber, formNumber, entryOf, valueAt, 
 use Rattle.path.specs.Paths.{stepOf, NameInside, Decoded}
 use Rattle.path.specs.declared.Segment.{Segment}
 use Rattle.path.specs.declared.Segment.the-variants.{Port, Class, Instance, Element, Attribute, Symbol, Invalid}
-use Rattle.path.specs.declared.LogicalValue.{LogicalValue}
-use Rattle.path.specs.declared.LogicalValue.the-variants.{Of, Cut}
+use Rattle.path.specs.declared.Value.{Value}
+use Rattle.path.specs.declared.Value.the-variants.{Of, Cut}
 use Rattle.path.specs.declared.Part.{Part}
 use Rattle.path.specs.declared.Part.the-variants.{From, Short}
 
@@ -37,7 +37,7 @@ module _ (path : List ℕ) (at : ℕ) where
   unfolding logicalAt
   later-logical p f make h =
       pick-all Later (eqb f 0) (later-within p 1 _ (omega arith))
-      (pick-all Later (eqb f 1) (later-within p 3 _ (omega arith)) (later-within p 5 _ (omega arith)))
+      (pick-all Later (eqb f 1) (later-within p 3 _ (omega arith)) (pick-all Later (eqb f 2) (later-within p 5 _ (omega arith)) tt))
 
   later-sized : (p : ℕ) (make : List ℕ → Defined) → at < p → Later (sizedAt path p make)
   unfolding sizedAt
@@ -98,7 +98,7 @@ not-port-type t = pick-all NotPort (eqb t 0x00) tt (pick-all NotPort (eqb t 0x04
 not-port : (b : ℕ) → ltb b 0x20 ≡ false → NotPort (kindOf b)
 unfolding kindOf
 not-port b e =
-    rw e (pick-all NotPort (ltb b 0x40) (pick-all NotPort (eqb (form b) 3) tt (not-port-type (bitAnd b 0x1C))) (pick-all NotPort (eqb b 0x91) tt tt))
+    rw e (pick-all NotPort (ltb b 0x40) (not-port-type (bitAnd b 0x1C)) (pick-all NotPort (eqb b 0x91) tt tt))
 
 port-below : (b : ℕ) → kindOf b ≡ portKind → b < 0x20
 port-below b e = by-test (ltb b 0x20) (ltb-true b 0x20) (λ t. absurd (subst NotPort e (not-port b t)))
@@ -119,13 +119,13 @@ pick-to h true p q = p
 pick-to h false p q = q
 
 module _ (path : List ℕ) where
-  value-is : (make : ℕ → Defined) (h : LogicalValue → Step) → ((x n : ℕ) → h (Of x n) ≡ step (make x) n) → h Cut ≡ cut
+  value-is : (make : ℕ → Defined) (h : Value → Step) → ((x n : ℕ) → h (Of x n) ≡ step (make x) n) → h Cut ≡ cut
       → (at f : ℕ) → h (valueAt path at f) ≡ logicalAt path at f make
   unfolding logicalAt
   value-is make h p q at f =
       pick-to h (eqb f 0) (pick-to h (leb (at + 1) (length path)) (p _ _) q)
       (pick-to h (eqb f 1) (pick-to h (leb (at + 3) (length path)) (p _ _) q)
-      (pick-to h (leb (at + 5) (length path)) (p _ _) q))
+      (pick-to h (eqb f 2) (pick-to h (leb (at + 5) (length path)) (p _ _) q) q))
 
   part-is : (make : List ℕ → Defined) (h : Part → Step) → ((a n next : ℕ) → h (From a n next) ≡ step (make (part path a n)) next) → h Short ≡ cut
       → (at : ℕ) → h (partAt path at) ≡ sizedAt path at make
@@ -202,7 +202,7 @@ module _ (path : List ℕ) (at : ℕ) where
   inside-link : (p : ℕ) (sized : Bool) → Inside (linkFrom path p sized)
   inside-link p sized = pick-all Inside sized (inside-port (partAt path p)) (pick-all Inside (ltb p (length path)) tt tt)
 
-  inside-logical : (k : ℕ) (v : LogicalValue) → Inside (logicalOf k v)
+  inside-logical : (k : ℕ) (v : Value) → Inside (logicalOf k v)
   inside-logical k (Of x n) = pick-all Inside (eqb k 2) tt (pick-all Inside (eqb k 3) tt (pick-all Inside (eqb k 4) tt tt))
   inside-logical k Cut = tt
 

@@ -1,4 +1,4 @@
--- The segment decoder by its table, as the code goes about it; Paths ties it to the definition.
+-- The segment decoder by its table, as the code goes about it: type, format, value with its pad. Paths ties it to the definition.
 use mathlib.Core.Bool.{Bool}
 use mathlib.Core.List.{List}
 use Prim.Native.Nat.{ℕ, _+_, _*_, _/_, _%_}
@@ -9,8 +9,8 @@ use Rattle.definition.specs.Bytes.{u16At, u32At}
 use Rattle.definition.specs.Segment.{Kind, portKind, classKind, instanceKind, elementKind, attributeKind, symbolKind, noKind, kindOf}
 use Rattle.path.specs.declared.Segment.{Segment}
 use Rattle.path.specs.declared.Segment.the-variants.{Port, Class, Instance, Element, Attribute, Symbol, Invalid}
-use Rattle.path.specs.declared.LogicalValue.{LogicalValue}
-use Rattle.path.specs.declared.LogicalValue.the-variants.{Of, Cut}
+use Rattle.path.specs.declared.Value.{Value}
+use Rattle.path.specs.declared.Value.the-variants.{Of, Cut}
 use Rattle.path.specs.declared.Part.{Part}
 use Rattle.path.specs.declared.Part.the-variants.{From, Short}
 
@@ -40,14 +40,18 @@ entryOf b = 4 * kindNumber (kindOf b) + formNumber (kindOf b) b
 
 -- ---- the decoder
 
-abbrev pub valueAt : List ℕ → ℕ → ℕ → LogicalValue
+abbrev pub valueAt : List ℕ → ℕ → ℕ → Value
 valueAt s at f =
     pick (eqb f 0) (pick (leb (at + 1) (length s)) (Of (getD s at 0) (at + 1)) Cut)
     (pick (eqb f 1) (pick (leb (at + 3) (length s)) (Of (u16At s (at + 1)) (at + 3)) Cut)
-    (pick (leb (at + 5) (length s)) (Of (u32At s (at + 1)) (at + 5)) Cut))
+    (pick (eqb f 2) (pick (leb (at + 5) (length s)) (Of (u32At s (at + 1)) (at + 5)) Cut) Cut))
 
-abbrev pub logicalOf : ℕ → LogicalValue → Segment
-logicalOf k (Of x next) = pick (eqb k 2) (Class x next) (pick (eqb k 3) (Instance x next) (pick (eqb k 4) (Element x next) (Attribute x next)))
+-- a logical segment of the kind of this number
+abbrev pub logicalOf : ℕ → Value → Segment
+logicalOf k (Of x next) =
+    pick (eqb k (kindNumber classKind)) (Class x next)
+    (pick (eqb k (kindNumber instanceKind)) (Instance x next)
+    (pick (eqb k (kindNumber elementKind)) (Element x next) (Attribute x next)))
 logicalOf k Cut = Invalid
 
 abbrev pub sizedPart : List ℕ → ℕ → ℕ → Part
@@ -69,9 +73,9 @@ linkFrom s at sized = pick sized (portOf (partAt s at)) (pick (ltb at (length s)
 
 abbrev pub byForm : List ℕ → (at kind form : ℕ) → Segment
 byForm s at k f =
-    pick (eqb k 0) Invalid
-    (pick (eqb k 1) (pick (ltb f 2) (linkFrom s at (eqb f 1)) (linkFrom s (at + 2) (eqb f 3)))
-    (pick (eqb k 6) (symbolOf (partAt s at))
+    pick (eqb k (kindNumber noKind)) Invalid
+    (pick (eqb k (kindNumber portKind)) (pick (ltb f 2) (linkFrom s at (eqb f 1)) (linkFrom s (at + 2) (eqb f 3)))
+    (pick (eqb k (kindNumber symbolKind)) (symbolOf (partAt s at))
     (logicalOf k (valueAt s at f))))
 
 abbrev pub byEntry : List ℕ → ℕ → ℕ → Segment

@@ -1,4 +1,5 @@
 // Decoding request paths: segments by a table of their first bytes, whole paths, requests, tag paths and program names.
+// A segment is decoded in the order of CIP Volume 1: its type (`by_entry`), its format, and its value with its pad (`logical_at`, `value_at`).
 use cip::numbers;
 ghost use mathlib.Core.Path.{_≡_};
 ghost use mathlib.Core.Bool.{true, false};
@@ -9,7 +10,6 @@ ghost use Rattle.definition.specs.Bytes.{part};
 ghost use Rattle.definition.specs.Names.{lower, sameByte, sameName, isProgramName};
 ghost use Rattle.definition.specs.Segment.{segmentsFrom};
 ghost use Rattle.path.specs.Decode.{
-  entryOf,
   valueAt,
   logicalOf,
   sizedPart,
@@ -24,269 +24,7 @@ ghost use Rattle.path.specs.Decode.{
 ghost use Rattle.path.specs.Paths.{Decoded, checkOf, splitOf, tagPathFrom, symbolObject, objectBehind, ObjectAt};
 
 pub mod reader;
-
-// What the first byte of a segment says: four times the kind, plus the form.
-// Kinds: 0 none, 1 port, 2 class, 3 instance, 4 element, 5 attribute, 6 symbol.
-// Forms of a logical segment: 0 an 8-bit value, 1 a pad and 16 bits, 2 a pad and 32 bits.
-// Forms of a port: 1 if the link has a size byte, plus 2 if a 16-bit port number follows.
-pub const SEGMENT_KINDS: [u8; 256] = [
-    4,
-    4,
-    4,
-    4,
-    4,
-    4,
-    4,
-    4,
-    4,
-    4,
-    4,
-    4,
-    4,
-    4,
-    4,
-    6,
-    5,
-    5,
-    5,
-    5,
-    5,
-    5,
-    5,
-    5,
-    5,
-    5,
-    5,
-    5,
-    5,
-    5,
-    5,
-    7,
-    8,
-    9,
-    10,
-    0,
-    12,
-    13,
-    14,
-    0,
-    16,
-    17,
-    18,
-    0,
-    0,
-    0,
-    0,
-    0,
-    20,
-    21,
-    22,
-    0,
-    0,
-    0,
-    0,
-    0,
-    0,
-    0,
-    0,
-    0,
-    0,
-    0,
-    0,
-    0,
-    0,
-    0,
-    0,
-    0,
-    0,
-    0,
-    0,
-    0,
-    0,
-    0,
-    0,
-    0,
-    0,
-    0,
-    0,
-    0,
-    0,
-    0,
-    0,
-    0,
-    0,
-    0,
-    0,
-    0,
-    0,
-    0,
-    0,
-    0,
-    0,
-    0,
-    0,
-    0,
-    0,
-    0,
-    0,
-    0,
-    0,
-    0,
-    0,
-    0,
-    0,
-    0,
-    0,
-    0,
-    0,
-    0,
-    0,
-    0,
-    0,
-    0,
-    0,
-    0,
-    0,
-    0,
-    0,
-    0,
-    0,
-    0,
-    0,
-    0,
-    0,
-    0,
-    0,
-    0,
-    0,
-    0,
-    0,
-    0,
-    0,
-    0,
-    0,
-    0,
-    0,
-    0,
-    0,
-    0,
-    0,
-    0,
-    0,
-    0,
-    0,
-    24,
-    0,
-    0,
-    0,
-    0,
-    0,
-    0,
-    0,
-    0,
-    0,
-    0,
-    0,
-    0,
-    0,
-    0,
-    0,
-    0,
-    0,
-    0,
-    0,
-    0,
-    0,
-    0,
-    0,
-    0,
-    0,
-    0,
-    0,
-    0,
-    0,
-    0,
-    0,
-    0,
-    0,
-    0,
-    0,
-    0,
-    0,
-    0,
-    0,
-    0,
-    0,
-    0,
-    0,
-    0,
-    0,
-    0,
-    0,
-    0,
-    0,
-    0,
-    0,
-    0,
-    0,
-    0,
-    0,
-    0,
-    0,
-    0,
-    0,
-    0,
-    0,
-    0,
-    0,
-    0,
-    0,
-    0,
-    0,
-    0,
-    0,
-    0,
-    0,
-    0,
-    0,
-    0,
-    0,
-    0,
-    0,
-    0,
-    0,
-    0,
-    0,
-    0,
-    0,
-    0,
-    0,
-    0,
-    0,
-    0,
-    0,
-    0,
-    0,
-    0,
-    0,
-    0,
-    0,
-    0,
-    0,
-    0,
-    0,
-    0,
-    0,
-    0,
-    0,
-    0,
-    0,
-    0,
-    0,
-    0,
-    0,
-    0,
-];
+pub mod table;
 
 /// A segment with the position of the next one; a symbol's name by its start and length.
 pub enum Segment {
@@ -299,8 +37,8 @@ pub enum Segment {
     Invalid,
 }
 
-/// A value and the position after it.
-enum LogicalValue {
+/// The value of a logical segment and the position after it.
+enum Value {
     Of(u32, usize),
     Cut,
 }
@@ -311,52 +49,111 @@ enum Part {
     Short,
 }
 
-fn entry_of(b: u8) -> u8
-    ensures { λ r. ⌜ r ≡ entryOf b ⌝ }
+/// The segment at a position; truncated and invalid ones, and a position past the end, are `Invalid`.
+pub fn segment_at(path: &[u8], at: usize) -> Segment
+    ensures { λ r. ⌜ Decoded (now (path .entry)) at r ⌝ }
 {
-    SEGMENT_KINDS[b as usize]
+    decode(path, at)
 }
 
-/// The value of a logical segment's form at a position.
-fn value_at(path: &[u8], at: usize, form: u8) -> LogicalValue
+/// The segment at a position, as `decodedAt` has it.
+fn decode(path: &[u8], at: usize) -> Segment
+    ensures { λ r. ⌜ r ≡ decodedAt (now (path .entry)) at ⌝ }
+{
+    if at < path.len() {
+        by_entry(path, at + 1, table::entry_of(path[at]))
+    } else {
+        Segment::Invalid
+    }
+}
+
+/// The type of the segment whose first byte has this entry: none, a port, a symbol, or a logical one with its form.
+fn by_entry(path: &[u8], at: usize, entry: u8) -> Segment
     requires { ⌜ at ≤ length (now path) ⌝ }
-    ensures { λ r. ⌜ r ≡ valueAt (now (path .entry)) at form ⌝ }
+    ensures { λ r. ⌜ r ≡ byEntry (now (path .entry)) at entry ⌝ }
 {
-    if form == 0 {
-        if at + 1 <= path.len() {
-            return LogicalValue::Of(numbers::word8(path[at]), at + 1);
+    let kind = entry / 4;
+    let form = entry % 4;
+    if kind == table::NO_KIND {
+        return Segment::Invalid;
+    }
+    if kind == table::PORT_KIND {
+        if form < table::NUMBER_AND_LINK {
+            return link_from(path, at, form == table::SIZE_AND_LINK);
         }
-        return LogicalValue::Cut;
+        return link_from(path, at + 2, form == table::NUMBER_SIZE_AND_LINK);
     }
-    if form == 1 {
-        if at + 3 <= path.len() {
-            return LogicalValue::Of(numbers::word16(cip::u16_at(path, at + 1)), at + 3);
-        }
-        return LogicalValue::Cut;
+    if kind == table::SYMBOL_KIND {
+        return symbol_of(part_at(path, at));
     }
-    if at + 5 <= path.len() {
-        return LogicalValue::Of(cip::u32_at(path, at + 1), at + 5);
-    }
-    LogicalValue::Cut
+    logical_at(path, at, kind, form)
 }
 
-fn logical_of(kind: u8, v: LogicalValue) -> Segment
-    ensures { λ r. ⌜ r ≡ logicalOf kind v ⌝ }
+/// The class, instance, element or attribute of the value that follows.
+fn logical_at(path: &[u8], at: usize, kind: u8, form: u8) -> Segment
+    requires { ⌜ at ≤ length (now path) ⌝ }
+    ensures { λ r. ⌜ r ≡ logicalOf kind (valueAt (now (path .entry)) at form) ⌝ }
 {
-    match v {
-        LogicalValue::Of(x, next) => {
-            if kind == 2 {
+    match value_at(path, at, form) {
+        Value::Of(x, next) => {
+            if kind == table::CLASS_KIND {
                 return Segment::Class(x, next);
             }
-            if kind == 3 {
+            if kind == table::INSTANCE_KIND {
                 return Segment::Instance(x, next);
             }
-            if kind == 4 {
+            if kind == table::ELEMENT_KIND {
                 return Segment::Element(x, next);
             }
             Segment::Attribute(x, next)
         }
-        LogicalValue::Cut => Segment::Invalid,
+        Value::Cut => Segment::Invalid,
+    }
+}
+
+/// The value by its format: 8 bits, a pad and 16, a pad and 32; the reserved format has none. A pad may hold anything.
+fn value_at(path: &[u8], at: usize, form: u8) -> Value
+    requires { ⌜ at ≤ length (now path) ⌝ }
+    ensures { λ r. ⌜ r ≡ valueAt (now (path .entry)) at form ⌝ }
+{
+    if form == table::BITS_8 {
+        if at + 1 <= path.len() {
+            return Value::Of(numbers::word8(path[at]), at + 1);
+        }
+        return Value::Cut;
+    }
+    if form == table::PAD_AND_16 {
+        if at + 3 <= path.len() {
+            return Value::Of(numbers::word16(cip::u16_at(path, at + 1)), at + 3);
+        }
+        return Value::Cut;
+    }
+    if form == table::PAD_AND_32 {
+        if at + 5 <= path.len() {
+            return Value::Of(cip::u32_at(path, at + 1), at + 5);
+        }
+        return Value::Cut;
+    }
+    Value::Cut
+}
+
+fn symbol_of(p: Part) -> Segment
+    ensures { λ r. ⌜ r ≡ symbolOf p ⌝ }
+{
+    match p {
+        Part::From(start, n, next) => Segment::Symbol(start, n, next),
+        Part::Short => Segment::Invalid,
+    }
+}
+
+/// A size byte, and as many bytes.
+fn part_at(path: &[u8], at: usize) -> Part
+    ensures { λ r. ⌜ r ≡ partAt (now (path .entry)) at ⌝ }
+{
+    if at < path.len() {
+        sized_part(path, at + 1, path[at])
+    } else {
+        Part::Short
     }
 }
 
@@ -374,35 +171,6 @@ fn sized_part(path: &[u8], at: usize, n: u8) -> Part
     }
 }
 
-/// A size byte, and as many bytes.
-fn part_at(path: &[u8], at: usize) -> Part
-    ensures { λ r. ⌜ r ≡ partAt (now (path .entry)) at ⌝ }
-{
-    if at < path.len() {
-        sized_part(path, at + 1, path[at])
-    } else {
-        Part::Short
-    }
-}
-
-fn symbol_of(p: Part) -> Segment
-    ensures { λ r. ⌜ r ≡ symbolOf p ⌝ }
-{
-    match p {
-        Part::From(start, n, next) => Segment::Symbol(start, n, next),
-        Part::Short => Segment::Invalid,
-    }
-}
-
-fn port_of(p: Part) -> Segment
-    ensures { λ r. ⌜ r ≡ portOf p ⌝ }
-{
-    match p {
-        Part::From(_, _, next) => Segment::Port(next),
-        Part::Short => Segment::Invalid,
-    }
-}
-
 /// What follows a port's number: one link byte, or a size byte and the link.
 fn link_from(path: &[u8], at: usize, sized: bool) -> Segment
     ensures { λ r. ⌜ r ≡ linkFrom (now (path .entry)) at sized ⌝ }
@@ -417,44 +185,13 @@ fn link_from(path: &[u8], at: usize, sized: bool) -> Segment
     }
 }
 
-/// What follows the first byte, whose entry of the table this is.
-fn by_entry(path: &[u8], at: usize, entry: u8) -> Segment
-    requires { ⌜ at ≤ length (now path) ⌝ }
-    ensures { λ r. ⌜ r ≡ byEntry (now (path .entry)) at entry ⌝ }
+fn port_of(p: Part) -> Segment
+    ensures { λ r. ⌜ r ≡ portOf p ⌝ }
 {
-    let kind = entry / 4;
-    let form = entry % 4;
-    if kind == 0 {
-        return Segment::Invalid;
+    match p {
+        Part::From(_, _, next) => Segment::Port(next),
+        Part::Short => Segment::Invalid,
     }
-    if kind == 1 {
-        if form < 2 {
-            return link_from(path, at, form == 1);
-        }
-        return link_from(path, at + 2, form == 3);
-    }
-    if kind == 6 {
-        return symbol_of(part_at(path, at));
-    }
-    logical_of(kind, value_at(path, at, form))
-}
-
-/// The segment at a position, as `decodedAt` has it.
-fn decode(path: &[u8], at: usize) -> Segment
-    ensures { λ r. ⌜ r ≡ decodedAt (now (path .entry)) at ⌝ }
-{
-    if at < path.len() {
-        by_entry(path, at + 1, entry_of(path[at]))
-    } else {
-        Segment::Invalid
-    }
-}
-
-/// The segment at a position; truncated and invalid ones, and a position past the end, are `Invalid`.
-pub fn segment_at(path: &[u8], at: usize) -> Segment
-    ensures { λ r. ⌜ Decoded (now (path .entry)) at r ⌝ }
-{
-    decode(path, at)
 }
 
 /// Where a segment ends; 0 where it is invalid.

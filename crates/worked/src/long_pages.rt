@@ -1,5 +1,5 @@
 // P2: pages and attributes of symbols with long names.
-use cip::numbers;
+use crate::hex;
 use libc::STDOUT_FILENO;
 use logix::entry::Outcome;
 use model::Flags;
@@ -28,18 +28,6 @@ const HALL_NAMES: [u8; 44] = *b"Program:BottlingHallNorthFillerAndCapperLine";
 const TASK_NAMES: [u8; 53] = *b"Task:Program:qqqqqqqqqqqqqqqqqqqqqqqqqqqqqqqqqqqqqqqq";
 
 const COUNT: [u8; 5] = *b"Count";
-
-fn hex(s: &[u8], n: usize) {
-    let mut i = 0;
-    while i < s.len() {
-        if i < n {
-            out::text(STDOUT_FILENO, b" ");
-            io::print_hex(STDOUT_FILENO, numbers::long8(s[i]), 2);
-        }
-        i += 1;
-    }
-    out::text(STDOUT_FILENO, b"\n");
-}
 
 /// Sends a request and shows it and its reply.
 fn send(
@@ -72,14 +60,15 @@ fn send(
         &mut buf,
     );
     out::text(STDOUT_FILENO, b"send");
-    hex(request, request.len());
-    out::text(STDOUT_FILENO, b"limit ");
+    hex::bytes(request, request.len());
+    out::text(STDOUT_FILENO, b"\nlimit ");
     out::number(STDOUT_FILENO, limit);
     out::text(STDOUT_FILENO, b":");
     match told {
-        Outcome::Reply(n) => hex(&buf, n),
-        Outcome::Refused(_) => out::text(STDOUT_FILENO, b" refused\n"),
+        Outcome::Reply(n) => hex::bytes(&buf, n),
+        Outcome::Refused(_) => out::text(STDOUT_FILENO, b" refused"),
     }
+    out::text(STDOUT_FILENO, b"\n");
 }
 
 /// A program of 36 letters and its other symbol, ID 9; no tag.

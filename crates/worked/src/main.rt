@@ -1,10 +1,16 @@
 // The worked examples of document 02's requests, a line each: what is asked, and what is answered.
+mod hex;
 mod long_names;
 mod long_pages;
+mod path_steps;
 
 fn main() {
     long_names::other_symbols();
     long_names::other_tables();
     long_pages::bottling_hall();
     long_pages::tasks();
+    path_steps::taken();
+    path_steps::refused();
+    path_steps::symbols();
+    path_steps::ports();
 }

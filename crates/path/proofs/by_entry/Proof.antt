@@ -1,6 +1,6 @@
 -- The tests of kind and form in the statement's order; what each arm calls promises what the statement has there.
 use mathlib.Core.Path.{ap, _∙_}
-use Rattle.path.specs.Decode.{symbolOf, logicalOf}
+use Rattle.path.specs.Decode.{symbolOf}
 use Rattle.laws.proofs.Chain.{chain}
 use borrow.Author.Needs.{needs}
 use Rattle.path.proofs.by_entry.Statement.{statement}
@@ -19,7 +19,7 @@ returns-4 : tie.Need-returns-4
 returns-4 c = let e = c .symbol-of .ensures ∙ ap symbolOf (c .before .part-at .ensures) in search chain
 
 returns-5 : tie.Need-returns-5
-returns-5 c = let e = c .logical-of .ensures ∙ ap (logicalOf _) (c .before .value-at .ensures) in search chain
+returns-5 c = search chain
 
 pub by-entry-spec : {M : Type 1} → statement M
 by-entry-spec =
@@ -34,6 +34,5 @@ by-entry-spec =
     (λ c κs. search needs)
     (λ c κs. search needs)
     returns-4
-    (λ c κs. search needs)
     (λ c κs. search needs)
     returns-5)

@@ -1,4 +1,4 @@
--- The tests of form and length in the statement's order; each arm reads only bytes that stand in the path.
+-- The tests of form and length in the statement's order; each arm reads only bytes that stand in the path, and the reserved format none.
 use mathlib.Core.Path.{_∙_}
 use Rattle.laws.proofs.Chain.{chain}
 use borrow.Author.Needs.{needs}
@@ -23,6 +23,9 @@ returns-5 c = search chain
 returns-6 : tie.Need-returns-6
 returns-6 c = search chain
 
+returns-7 : tie.Need-returns-7
+returns-7 c = search chain
+
 pub value-at-spec : {M : Type 1} → statement M
 value-at-spec =
     tie.close
@@ -45,4 +48,5 @@ value-at-spec =
     (λ c κs. search needs)
     (λ c. search needs)
     returns-5
-    returns-6)
+    returns-6
+    returns-7)

@@ -2,8 +2,8 @@
 use Prim.Native.Nat.{_≤_, _-_}
 use lib.ListN.{length}
 use borrow.Author.Needs.{needs}
-use Rattle.worked.proofs.long_pages.hex.Statement.{statement}
-use Rattle.worked.proofs.long_pages.hex.Tie as tie
+use Rattle.worked.proofs.hex.bytes.Statement.{statement}
+use Rattle.worked.proofs.hex.bytes.Tie as tie
 
 abbrev Inv-loop : tie.InvT-loop
 Inv-loop s n i₀ t4 t5 i = i ≤ length s
@@ -11,8 +11,8 @@ Inv-loop s n i₀ t4 t5 i = i ≤ length s
 abbrev μ-loop : tie.MeasureT-loop
 μ-loop s n i₀ t4 t5 i = length s - i
 
-pub hex-spec : {M : Type 1} → statement M
-hex-spec =
+pub bytes-spec : {M : Type 1} → statement M
+bytes-spec =
     tie.close
     (tie.spec
     Inv-loop
