@@ -159,10 +159,10 @@ module _ (path : List ℕ) where
   kind-is : (k : Kind) (at b : ℕ) → kindOf b ≡ k → stepOf path (byForm path at (kindNumber k) (formNumber k b)) ≡ byKind k path at b
   kind-is noKind at b e = refl
   kind-is portKind at b e = port-is at b (port-below b e)
-  kind-is classKind at b e = value-is class (λ v. stepOf path (logicalOf 2 v)) (λ x n. refl) refl at (b % 4)
-  kind-is instanceKind at b e = value-is instance (λ v. stepOf path (logicalOf 3 v)) (λ x n. refl) refl at (b % 4)
-  kind-is elementKind at b e = value-is element (λ v. stepOf path (logicalOf 4 v)) (λ x n. refl) refl at (b % 4)
-  kind-is attributeKind at b e = value-is attribute (λ v. stepOf path (logicalOf 5 v)) (λ x n. refl) refl at (b % 4)
+  kind-is classKind at b e = value-is class (λ v. stepOf path (logicalOf 2 v)) (λ x n. refl) refl at (form b)
+  kind-is instanceKind at b e = value-is instance (λ v. stepOf path (logicalOf 3 v)) (λ x n. refl) refl at (form b)
+  kind-is elementKind at b e = value-is element (λ v. stepOf path (logicalOf 4 v)) (λ x n. refl) refl at (form b)
+  kind-is attributeKind at b e = value-is attribute (λ v. stepOf path (logicalOf 5 v)) (λ x n. refl) refl at (form b)
   kind-is symbolKind at b e = part-is symbol (λ p. stepOf path (symbolOf p)) (λ a n next. refl) refl at
 
   entry-is : (at b : ℕ) → stepOf path (byEntry path at (entryOf b)) ≡ byKind (kindOf b) path at b

@@ -6,7 +6,7 @@ use lib.Dec.{ltb, leb, eqb}
 use lib.ListN.{length, getD}
 use Rattle.laws.specs.Pick.{pick}
 use Rattle.definition.specs.Bytes.{u16At, u32At}
-use Rattle.definition.specs.Segment.{Kind, portKind, classKind, instanceKind, elementKind, attributeKind, symbolKind, noKind, kindOf}
+use Rattle.definition.specs.Segment.{Kind, portKind, classKind, instanceKind, elementKind, attributeKind, symbolKind, noKind, kindOf, form}
 use Rattle.path.specs.declared.Segment.{Segment}
 use Rattle.path.specs.declared.Segment.the-variants.{Port, Class, Instance, Element, Attribute, Symbol, Invalid}
 use Rattle.path.specs.declared.Value.{Value}
@@ -25,14 +25,14 @@ kindNumber elementKind = 4
 kindNumber attributeKind = 5
 kindNumber symbolKind = 6
 
--- the low two bits of a logical segment; of a port 1 if the link has a size (bit 0x10), plus 2 if its number is 15
+-- a logical segment's format; of a port 1 if the link has a size (bit 0x10), plus 2 if its number is 15
 abbrev pub formNumber : Kind → ℕ → ℕ
 formNumber noKind b = 0
 formNumber portKind b = pick (eqb (b % 16) 15) 2 0 + b / 16
-formNumber classKind b = b % 4
-formNumber instanceKind b = b % 4
-formNumber elementKind b = b % 4
-formNumber attributeKind b = b % 4
+formNumber classKind b = form b
+formNumber instanceKind b = form b
+formNumber elementKind b = form b
+formNumber attributeKind b = form b
 formNumber symbolKind b = 0
 
 unfoldable pub entryOf : ℕ → ℕ

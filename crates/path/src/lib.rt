@@ -1,5 +1,5 @@
 // Decoding request paths: segments by a table of their first bytes, whole paths, requests, tag paths and program names.
-// A segment is decoded in the order of CIP Volume 1: its type (`by_entry`), its format, and its value with its pad (`logical_at`, `value_at`).
+// A segment is decoded in the order of CIP Volume 1: its type (`by_entry`), then its format, then its value with its pad (`logical_at`, `value_at`).
 use cip::numbers;
 ghost use mathlib.Core.Path.{_≡_};
 ghost use mathlib.Core.Bool.{true, false};
@@ -67,6 +67,8 @@ fn decode(path: &[u8], at: usize) -> Segment
     }
 }
 
+// ---- the segment type
+
 /// The type of the segment whose first byte has this entry: none, a port, a symbol, or a logical one with its form.
 fn by_entry(path: &[u8], at: usize, entry: u8) -> Segment
     requires { ⌜ at ≤ length (now path) ⌝ }
@@ -88,6 +90,8 @@ fn by_entry(path: &[u8], at: usize, entry: u8) -> Segment
     }
     logical_at(path, at, kind, form)
 }
+
+// ---- a logical segment: its format, then its value with its pad
 
 /// The class, instance, element or attribute of the value that follows.
 fn logical_at(path: &[u8], at: usize, kind: u8, form: u8) -> Segment
@@ -137,6 +141,8 @@ fn value_at(path: &[u8], at: usize, form: u8) -> Value
     Value::Cut
 }
 
+// ---- a symbol: its size, then its name with its pad
+
 fn symbol_of(p: Part) -> Segment
     ensures { λ r. ⌜ r ≡ symbolOf p ⌝ }
 {
@@ -171,6 +177,8 @@ fn sized_part(path: &[u8], at: usize, n: u8) -> Part
     }
 }
 
+// ---- ports, in steps of their own
+
 /// What follows a port's number: one link byte, or a size byte and the link.
 fn link_from(path: &[u8], at: usize, sized: bool) -> Segment
     ensures { λ r. ⌜ r ≡ linkFrom (now (path .entry)) at sized ⌝ }
@@ -193,6 +201,8 @@ fn port_of(p: Part) -> Segment
         Part::Short => Segment::Invalid,
     }
 }
+
+// ---- segments and paths
 
 /// Where a segment ends; 0 where it is invalid.
 pub fn next_of(s: Segment) -> usize
