@@ -6,10 +6,13 @@ use Rattle.worked.proofs.hex.bytes.Statement.{statement}
 use Rattle.worked.proofs.hex.bytes.Tie as tie
 
 abbrev Inv-loop : tie.InvT-loop
-Inv-loop s n i₀ t4 t5 i = i ≤ length s
+Inv-loop s n i₀ t4 i = i ≤ length s
 
 abbrev μ-loop : tie.MeasureT-loop
-μ-loop s n i₀ t4 t5 i = length s - i
+μ-loop s n i₀ t4 i = length s - i
+
+returns : tie.Need-returns Inv-loop μ-loop
+returns c = tt
 
 pub bytes-spec : {M : Type 1} → statement M
 bytes-spec =
@@ -26,6 +29,4 @@ bytes-spec =
     (λ c. search needs)
     (λ c. search needs)
     (λ c. search needs)
-    (λ c. search needs)
-    (λ c κs. search needs)
-    (λ c. search needs))
+    returns)
