@@ -127,6 +127,10 @@ module _ (path : List ℕ) where
       (pick-to h (eqb f 1) (pick-to h (leb (at + 3) (length path)) (p _ _) q)
       (pick-to h (eqb f 2) (pick-to h (leb (at + 5) (length path)) (p _ _) q) q))
 
+  logical-is : (k : Kind) (make : ℕ → Defined) → ((x n : ℕ) → stepOf path (logicalOf (kindNumber k) (Of x n)) ≡ step (make x) n)
+      → (at b : ℕ) → stepOf path (logicalOf (kindNumber k) (valueAt path at (form b))) ≡ logicalAt path at (form b) make
+  logical-is k make p at b = value-is make (λ v. stepOf path (logicalOf (kindNumber k) v)) p refl at (form b)
+
   part-is : (make : List ℕ → Defined) (h : Part → Step) → ((a n next : ℕ) → h (From a n next) ≡ step (make (part path a n)) next) → h Short ≡ cut
       → (at : ℕ) → h (partAt path at) ≡ sizedAt path at make
   unfolding sizedAt
@@ -159,10 +163,10 @@ module _ (path : List ℕ) where
   kind-is : (k : Kind) (at b : ℕ) → kindOf b ≡ k → stepOf path (byForm path at (kindNumber k) (formNumber k b)) ≡ byKind k path at b
   kind-is noKind at b e = refl
   kind-is portKind at b e = port-is at b (port-below b e)
-  kind-is classKind at b e = value-is class (λ v. stepOf path (logicalOf 2 v)) (λ x n. refl) refl at (form b)
-  kind-is instanceKind at b e = value-is instance (λ v. stepOf path (logicalOf 3 v)) (λ x n. refl) refl at (form b)
-  kind-is elementKind at b e = value-is element (λ v. stepOf path (logicalOf 4 v)) (λ x n. refl) refl at (form b)
-  kind-is attributeKind at b e = value-is attribute (λ v. stepOf path (logicalOf 5 v)) (λ x n. refl) refl at (form b)
+  kind-is classKind at b e = logical-is classKind class (λ x n. refl) at b
+  kind-is instanceKind at b e = logical-is instanceKind instance (λ x n. refl) at b
+  kind-is elementKind at b e = logical-is elementKind element (λ x n. refl) at b
+  kind-is attributeKind at b e = logical-is attributeKind attribute (λ x n. refl) at b
   kind-is symbolKind at b e = part-is symbol (λ p. stepOf path (symbolOf p)) (λ a n next. refl) refl at
 
   entry-is : (at b : ℕ) → stepOf path (byEntry path at (entryOf b)) ≡ byKind (kindOf b) path at b
