@@ -17,7 +17,7 @@ use Rattle.laws.proofs.Chain.{by-test, pick-all}
 use Rattle.definition.specs.Bytes.{u16At, u32At, part}
 use Rattle.definition.specs.Segment.{Segment, port, class, instance, element, attribute, symbol, Kind, portKind, classKind, instanceKind, elementKind, attributeKind, symbolKind, noKind, logicalType, form, kindOf, Step, step, cut, logicalAt, sizedAt, linkAt, portAt, byKind, segmentAt, nextOf, onlySegments, segmentsFrom}
 
--- ---- the former text, whole but for its types
+-- ---- the former text: each function of `Segment` that `segmentAt` rests on; types, numbers and parts of bytes, `nextOf` and `onlySegments` have stayed
 
 abbrev pub formerLogicalType : ℕ → Kind
 formerLogicalType t =
