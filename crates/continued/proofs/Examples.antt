@@ -16,15 +16,15 @@ use Rattle.definition.specs.Tables.{Tables}
 use Rattle.definition.specs.Read.{selectedBytes}
 use Rattle.definition.specs.Entry.{Entered, refuse, entry}
 use Rattle.definition.specs.Promises.{Grants}
-use Rattle.continued.specs.Reads.{Sent, Turn, ours, other, Answered, joined, heard, talk, Fair}
+use Rattle.continued.specs.Reads.{Sent, Turn, ours, other, Answered, joined, leastLimit, heard, talk, Fair}
 use Rattle.continued.specs.Pages.{FairPages}
-use Rattle.continued.specs.Point3.{respond, hears, leaves, Event, message, changed, steps, Between, Asks, Reads, FairReads, ReadsDeliver, Pages, FairList, PagesDeliver, Encodes, readRequest, pageRequest}
-use Rattle.continued.proofs.Point3.{continued-reads, continued-pages}
-use Rattle.continued.proofs.Requests.{exact-asks}
+use Rattle.continued.specs.Point3.{respond, hears, leaves, Event, message, changed, steps, Between, Asks, Reads, FairReads, ReadsDeliver, Pages, FairList, PagesDeliver, Encodes, readRequest, openRequest, pageRequest}
+use Rattle.continued.proofs.Point3.{plain-at-0, continued-reads, continued-pages}
+use Rattle.continued.proofs.Requests.{service-first, exact-asks, exact-opens}
 
 -- all that has to compute: `unfolding computed` opens what this line names
 unfoldable pub computed : Unit {0}
-unfolding compute pallet palletFlags palletMemory palletStart upFrom respond readRequest pageRequest joined talk Fair FairPages
+unfolding compute pallet palletFlags palletMemory palletStart upFrom respond readRequest openRequest pageRequest joined talk Fair FairPages
 computed = tt
 
 -- a message with a reply buffer of 110 bytes
@@ -173,6 +173,90 @@ rows9 : (length (answers pallet 2 (turns9 14 0)) ≡ 14) × (joined (answers pal
 unfolding computed turns9
 rows9 = (refl, refl, refl)
 
+-- ---- a 0x4C opens the read of `Rows`
+
+abbrev pub opening : (limit : ℕ) → Turn Event
+opening limit = ours (sent (openRequest rows 10) limit)
+
+pub opening-asks : Asks rowsPath 10 (openRequest rows 10) 0
+opening-asks = rw (← append-nil (openRequest rows 10)) (exact-opens rows rowsPath 10 [] rows-encode (lit≤ tt))
+
+-- 16 bytes by 0x4C and the rest by two 0x52, all at limit 22
+abbrev opened : List (Turn Event)
+opened = opening 22 ∷ row 22 16 ∷ row 22 32 ∷ []
+
+opened-come : (sizes (answers pallet 2 opened) ≡ 8 ∷ 16 ∷ 16 ∷ []) × (joined (answers pallet 2 opened) ≡ upFrom 1 40) × (replyCount 40 (space 2 22) ≡ 3)
+unfolding computed
+opened-come = (refl, refl, refl)
+
+fair-opened : FairReads pallet palletFlags (Reads rowsPath 10) (granted-rows .selected) palletStart opened
+unfolding computed granted-rows
+fair-opened = (
+  opening-asks,
+  omega arith,
+  λ r. lit≤ tt,
+  (row-asks 16 (lit≤ tt), omega arith, λ r. lit≤ tt, (row-asks 32 (lit≤ tt), omega arith, λ r. lit≤ tt, tt)),
+)
+
+opened-delivered : ReadsDeliver pallet palletFlags (granted-rows .selected) palletStart opened
+unfolding computed
+opened-delivered = continued-reads pallet palletFlags rowsPath 10 granted-rows palletStart opened refl fair-opened
+
+-- a 0x4C that the entry refuses for its buffer opens nothing, and a 0x52 at 0 takes its place; among them a 0x4C at limit 6, and one where 16 bytes are
+-- there already, are no reads of ours
+abbrev unheard : Sent
+unheard = record { request = openRequest rows 10; limit = 22; buffer = replicate 7 7 }
+
+abbrev replaced : List (Turn Event)
+replaced =
+    ours unheard
+    ∷ other (message (sent (openRequest rows 10) 6))
+    ∷ row 22 0
+    ∷ other (message (sent (openRequest rows 10) 22))
+    ∷ row 22 16
+    ∷ []
+
+replaced-come : (respond pallet palletFlags unheard palletStart ≡ refuse 3 (replicate 7 7) palletStart)
+    × (sizes (answers pallet 2 replaced) ≡ 16 ∷ 16 ∷ [])
+    × (joined (answers pallet 2 replaced) ≡ upFrom 1 32)
+unfolding computed
+replaced-come = (refl, refl, refl)
+
+fair-replaced : FairReads pallet palletFlags (Reads rowsPath 10) (granted-rows .selected) palletStart replaced
+unfolding computed granted-rows
+fair-replaced = (
+  opening-asks,
+  omega arith,
+  λ r. absurd r,
+  inr (refl, tt, (row-asks 0 (lit≤ tt), omega arith, λ r. lit≤ tt, inr (refl, tt, (row-asks 16 (lit≤ tt), omega arith, λ r. lit≤ tt, tt)))),
+)
+
+replaced-delivered : ReadsDeliver pallet palletFlags (granted-rows .selected) palletStart replaced
+unfolding computed
+replaced-delivered = continued-reads pallet palletFlags rowsPath 10 granted-rows palletStart replaced refl fair-replaced
+
+-- the other lists of document 02's page: the bytes that come, the newest first, and the bound at the smallest answered limit
+abbrev comes : List (Turn Event) → List ℕ × ℕ
+comes turns = let l = answers pallet 2 turns in (sizes l, replyCount 40 (space 2 (leastLimit l)))
+
+lists-come :
+    (comes (opening 46 ∷ []) ≡ (40 ∷ [], 1))
+    × (comes (opening 45 ∷ row 45 36 ∷ []) ≡ (4 ∷ 36 ∷ [], 2))
+    × (comes (opening 30 ∷ row 22 24 ∷ []) ≡ (16 ∷ 24 ∷ [], 3))
+    × (comes (opening 9 ∷ turns9 13 3) ≡ (1 ∷ replicate 13 3, 14))
+    -- four bytes behind the count are no offset
+    × (answers pallet 2 (ours (sent (openRequest rows 10 ++ 16 ∷ 0 ∷ 0 ∷ 0 ∷ []) 22) ∷ []) ≡ answers pallet 2 (opening 22 ∷ []))
+    -- at limit 6 nothing comes
+    × (sizes (answers pallet 2 (opening 6 ∷ [])) ≡ 0 ∷ [])
+unfolding computed turns9
+lists-come = (refl, refl, refl, refl, refl, refl)
+
+-- a second 0x4C is no read at 16
+second-plain : Asks rowsPath 10 (openRequest rows 10) 16 → ⊥
+unfolding openRequest
+second-plain a =
+    omega (arith, plain-at-0 rowsPath 10 (openRequest rows 10) 16 a (sym (service-first (openRequest rows 10) (a .service) rowsPath (a .body) (a .is))))
+
 -- ---- the bit `Run` of `Cell`, by `Cell` and then by instance: one byte, before a write that turns it off
 
 abbrev runPath : List Segment
@@ -196,7 +280,7 @@ run-comes = refl
 
 run-asks : Asks runPath 1 (readRequest cellRun 1 0) 0
 unfolding computed
-run-asks = record { body = 1 ∷ 0 ∷ 0 ∷ 0 ∷ 0 ∷ 0 ∷ []; is = refl; fields = lit≤ tt; count-is = refl; offset-is = refl }
+run-asks = record { service = 0x52; body = 1 ∷ 0 ∷ 0 ∷ 0 ∷ 0 ∷ 0 ∷ []; reads = refl; is = refl; fields-are = refl }
 
 fair-run : FairReads pallet palletFlags (Reads runPath 1) (granted-run .selected) palletStart runTurns
 unfolding computed granted-run

@@ -1,17 +1,16 @@
 -- Point 3 for the definition itself: continued reads and continued pages, by `Talk` and `Listing`; first in any bytes, then in exact ones.
 -- Assumes nothing.
-use mathlib.Core.Path.{_≡_, refl}
+use mathlib.Core.Path.{_≡_, refl, sym, ap, _∙_}
 use mathlib.Core.Bool.{true, false}
 use mathlib.Core.List.{List, [], append-nil}
 use Prim.Native.Nat.{ℕ, _≤_, _<_}
 use native.Mathlib.Omega.{arith}
-use lib.Dec.{leb, eqb}
+use lib.Dec.{ltb, leb, eqb}
 use lib.ListN.{length, drop, length-take, length-drop}
-use borrow.Author.Tests.{leb-true, lt-leb, le-ltb}
+use borrow.Author.Tests.{leb-true, lt-leb}
 use Rattle.laws.specs.Tests.{every}
-use Rattle.laws.proofs.Chain.{pick-all}
+use Rattle.laws.proofs.Chain.{by-test, pick-all, clash}
 use Rattle.laws.proofs.Tests.{both-none, among}
-use Rattle.definition.specs.Bytes.{u16At, u32At}
 use Rattle.definition.specs.Reply.{answered}
 use Rattle.definition.specs.Segment.{Segment}
 use Rattle.definition.specs.Request.{objectOf}
@@ -19,23 +18,23 @@ use Rattle.definition.specs.Tables.{Tables, Flags, noBit}
 use Rattle.definition.specs.Valid.{t1, valid}
 use Rattle.definition.specs.Resolve.{Resolved, found, turned}
 use Rattle.definition.specs.Access.{tagTarget}
-use Rattle.definition.specs.Read.{Selection, selectedBytes, granted, askTarget, sendFrom, readReply}
+use Rattle.definition.specs.Read.{Selection, selectedBytes, granted, askTarget, sendFrom, readAt, fields, readFields}
 use Rattle.definition.specs.Fragment.{fragmentReply}
 use Rattle.definition.specs.Page.{pageReply}
 use Rattle.definition.specs.Symbols.{listing, due, isListed, listSymbols}
-use Rattle.definition.specs.Answer.{onTarget, tagService, byService, plain, answer}
+use Rattle.definition.specs.Answer.{isRead, onTarget, byService, plain, answer}
 use Rattle.definition.specs.Entry.{Entered, replied, lay, entry}
 use Rattle.definition.specs.Promises.{Grants}
 use Rattle.definition.proofs.Enters.{Ways, stopped, taken, enters}
-use Rattle.definition.proofs.Granted.{past-objects}
+use Rattle.definition.proofs.OneRead.{past-objects, read-answer, read-target}
 use Rattle.definition.proofs.Listing.{listing-sorted, listing-some}
 use Rattle.definition.proofs.Selected.{granted-some}
 use Rattle.definition.proofs.Stored.{memory-keeps-its-length}
 use Rattle.continued.specs.Reads.{Sent, Turn, Replied}
-use Rattle.continued.specs.Point3.{Memory, respond, hears, leaves, Event, message, changed, steps, Between, Asks, Reads, FairReads, ReadsDeliver, Continued-reads, AsksPage, Pages, FairList, PagesDeliver, Continued-pages, readRequest, Readable, ExactReads, Exact-reads, pageRequest, ExactPages, Exact-pages}
-use Rattle.continued.proofs.Talk.{reads-deliver}
+use Rattle.continued.specs.Point3.{Memory, respond, hears, leaves, Event, message, changed, steps, Between, Asks, Plain-at-0, Reads, FairReads, ReadsDeliver, Continued-reads, AsksPage, Pages, FairList, PagesDeliver, Continued-pages, readRequest, Readable, ExactReads, Exact-reads, pageRequest, ExactPages, Exact-pages}
+use Rattle.continued.proofs.Talk.{Sends, reads-deliver}
 use Rattle.continued.proofs.Listing.{pages-deliver}
-use Rattle.continued.proofs.Requests.{exact-asks, exact-page}
+use Rattle.continued.proofs.Requests.{service-first, exact-asks, exact-page}
 
 -- ---- past the entry: a reply is the dispatcher's, and a refusal leaves the memory
 
@@ -74,32 +73,28 @@ selected-few t s m v =
     let few : length m ≤ 65536 = leb-true _ _ (among (leb (length m) 65536) _ v (λ e. simp (e, both-none))) in
     pick-all (λ (l : List ℕ). length l ≤ 65536) (eqb (s .bit) noBit) (simp (length-take, length-drop) (omega arith)) (omega arith)
 
--- a granted read, at an offset below the number of selected bytes
-pub granted-reply : (t : Tables) (m : Memory) (x : Resolved) (body : List ℕ) (limit : ℕ) (s : Selection)
-    → 6 ≤ length body → askTarget (t .structures) x (u16At body 0) ≡ granted s → u32At body 2 < length (selectedBytes s m)
-    → onTarget t m 0x52 x body limit ≡ answered (fragmentReply 0x52 (s .header) (drop (u32At body 2) (selectedBytes s m)) limit) m
-unfolding readReply sendFrom
-granted-reply t m (turned status) body limit s b e l = absurd (let z : _≡_ {A = ℕ} 0 1 = cc in omega arith)
-granted-reply t m (found g) body limit s b e l = rw (le-ltb, e, lt-leb (length (selectedBytes s m)) (u32At body 2) l)
+-- a granted read, at an offset below the number of selected bytes, whatever its service
+granted-reply : (t : Tables) (m : Memory) (service : ℕ) (x : Resolved) (body : List ℕ) (elements offset limit : ℕ) (s : Selection)
+    → isRead service ≡ true → readFields service body ≡ fields elements offset → askTarget (t .structures) x elements ≡ granted s
+    → offset < length (selectedBytes s m)
+    → onTarget t m service x body limit ≡ answered (fragmentReply service (s .header) (drop offset (selectedBytes s m)) limit) m
+unfolding readAt sendFrom
+granted-reply t m service (turned status) body elements offset limit s read asks e l = absurd (let z : _≡_ {A = ℕ} 0 1 = cc in omega arith)
+granted-reply t m service (found g) body elements offset limit s read asks e l =
+    rw (read-target t m service g body limit _ read asks, e, lt-leb (length (selectedBytes s m)) offset l)
 
 module _ (t : Tables) (f : Flags) (path : List Segment) (elements : ℕ) (g : Grants t f path elements) where
-  pub answer-asked : (m : Memory) (x : List ℕ) (limit offset : ℕ) → Asks path elements x offset → offset < length (selectedBytes (g .selected) m)
-      → answer t f m x limit ≡ answered (fragmentReply 0x52 (g .selected .header) (drop offset (selectedBytes (g .selected) m)) limit) m
-  unfolding tagService answer plain byService
+  pub answer-asked : (m : Memory) (x : List ℕ) (limit offset : ℕ) (q : Asks path elements x offset) → offset < length (selectedBytes (g .selected) m)
+      → answer t f m x limit ≡ answered (fragmentReply (q .service) (g .selected .header) (drop offset (selectedBytes (g .selected) m)) limit) m
   answer-asked m x limit offset q l =
-      rw (
-        q .is,
-        past-objects t f m 0x52 (objectOf path) path (q .body) limit refl refl,
-        g .tag-path,
-        granted-reply t m (tagTarget t f false path) (q .body) limit (g .selected) (q .fields) (rw (q .count-is) (g .granted-is)) (rw (q .offset-is) l),
-        q .offset-is,
-      ) refl
+      rw (read-answer t f m x limit (q .service) path (q .body) (g .tag-path) (q .reads) (q .is))
+      (granted-reply t m (q .service) (tagTarget t f false path) (q .body) elements offset limit (g .selected) (q .reads) (q .fields-are) (g .granted-is) l)
 
   read-law : (x : Sent) (m : Memory) (offset : ℕ) → Asks path elements (x .request) offset → offset < length (selectedBytes (g .selected) m)
       → Replied (hears t f x m)
-      → (respond t f x m .outcome ≡ replied (fragmentReply 0x52 (g .selected .header) (drop offset (selectedBytes (g .selected) m)) (x .limit)))
+      → Sends (respond t f x m .outcome) (g .selected .header) (drop offset (selectedBytes (g .selected) m)) (x .limit)
       × (respond t f x m .memory ≡ m)
-  read-law x m offset q l p = rw (entered t f x m .0 p, answer-asked m (x .request) (x .limit) offset q l) (refl, refl)
+  read-law x m offset q l p = rw (entered t f x m .0 p, answer-asked m (x .request) (x .limit) offset q l) ((q .service, refl), refl)
 
   -- of any notion of a read that is such a read where something is selected
   reads-of : (reads : Memory → Sent → ℕ → Type 0)
@@ -108,9 +103,16 @@ module _ (t : Tables) (f : Flags) (path : List Segment) (elements : ℕ) (g : Gr
       → (m : Memory) (turns : List (Turn Event)) → valid t (length m) ≡ true → FairReads t f reads (g .selected) m turns
       → ReadsDeliver t f (g .selected) m turns
   reads-of reads asks m turns v =
-      reads-deliver (hears t f) (leaves t f) (steps t f) reads (selectedBytes (g .selected)) (g .selected .header) 0x52 (Fits t) Between
+      reads-deliver (hears t f) (leaves t f) (steps t f) reads (selectedBytes (g .selected)) (g .selected .header) (Fits t) Between
       (keeps t f) (stays t f) (λ x m offset v q l. read-law x m offset (asks x m offset v q l) l) (λ x m. entered t f x m .1)
       m turns v (granted-some t f path elements (g .selected) m v (g .granted-is))
+
+pub plain-at-0 : Plain-at-0
+unfolding readFields
+plain-at-0 path elements x offset a e = go (rw e at (a .fields-are))
+  where
+    go : readFields 0x4C (a .body) ≡ fields elements offset → offset ≡ 0
+    go q = by-test (ltb (length (a .body)) 2) (λ t. clash (cc (rw t at q))) (λ t. let s = rw t at q in cc)
 
 pub continued-reads : Continued-reads
 continued-reads t f path elements g = reads-of t f path elements g (Reads path elements) (λ x m offset v q l. q)
@@ -125,10 +127,12 @@ module _ (t : Tables) (f : Flags) (path : List ℕ) (elements : ℕ) (s : Select
 
   pub exact-answer : (offset limit : ℕ) → offset < length (selectedBytes s m)
       → answer t f m (readRequest path elements offset) limit ≡ answered (fragmentReply 0x52 (s .header) (drop offset (selectedBytes s m)) limit) m
-  unfolding granted-exact
+  unfolding granted-exact readRequest
   exact-answer offset limit l =
-      answer-asked t f (r .decoded) elements granted-exact m (readRequest path elements offset) limit offset
-      (asks-exact offset (omega (arith, selected-few t s m (r .tables)))) l
+      let q = asks-exact offset (omega (arith, selected-few t s m (r .tables))) in
+      answer-asked t f (r .decoded) elements granted-exact m (readRequest path elements offset) limit offset q l
+      ∙ ap (λ (service : ℕ). answered (fragmentReply service (s .header) (drop offset (selectedBytes s m)) limit) m)
+      (sym (service-first (readRequest path elements offset) (q .service) (r .decoded) (q .body) (q .is)))
 
 pub exact-reads : Exact-reads
 unfolding granted-exact

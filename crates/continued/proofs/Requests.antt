@@ -3,27 +3,28 @@
 use mathlib.Core.Path.{_≡_, refl}
 use mathlib.Core.Bool.{Bool, true, false}
 use mathlib.Core.List.{List, [], _∷_, _++_, append-assoc}
-use mathlib.Core.Option.{some}
+use mathlib.Core.Option.{Option, none, some}
 use Prim.Native.Nat.{ℕ, _+_, _*_, _/_, _≤_, _<_}
 use native.Mathlib.Nat.{div-div-eq-div-mul}
 use native.Mathlib.Omega.{arith}
-use lib.Dec.{eqb, lit≤}
-use lib.ListN.{length, length-append}
+use lib.Dec.{ltb, eqb, lit≤}
+use lib.ListN.{length, getD, drop, length-append}
 use lib.Seq.{take-append-seam, drop-append-seam, drop-append-add}
 use borrow.Author.Tests.{le-ltb, eqb-true}
 use Rattle.laws.specs.Pick.{either}
 use Rattle.laws.specs.Sorted.{All}
 use Rattle.laws.specs.Tests.{every}
-use Rattle.laws.proofs.Chain.{by-test}
+use Rattle.laws.proofs.Chain.{by-test, clash}
 use Rattle.laws.proofs.Tests.{every-All}
-use Rattle.definition.specs.Bytes.{u16At, u32At, le16, le32, numbers, counted}
-use Rattle.definition.specs.Segment.{Segment}
-use Rattle.definition.specs.Request.{request, requestOf, objectOf}
+use Rattle.definition.specs.Bytes.{u16At, u32At, le16, le32, part, numbers, counted}
+use Rattle.definition.specs.Segment.{Segment, segments}
+use Rattle.definition.specs.Request.{request, withPath, requestOf, objectOf}
 use Rattle.definition.specs.Tables.{Tables, Flags}
+use Rattle.definition.specs.Read.{readFields}
 use Rattle.definition.specs.Symbols.{isListed}
 use Rattle.definition.specs.Answer.{byService, plain, answer}
-use Rattle.definition.proofs.Granted.{past-objects}
-use Rattle.continued.specs.Point3.{Memory, Asks, AsksPage, Encodes, readRequest, numberBytes, pageRequest, Starts-at}
+use Rattle.definition.proofs.OneRead.{past-objects}
+use Rattle.continued.specs.Point3.{Memory, Asks, AsksPage, Encodes, readRequest, openRequest, numberBytes, pageRequest, Starts-at}
 
 -- ---- numbers and their bytes
 
@@ -75,19 +76,47 @@ decoded-request service path decoded body e =
       e .decodes,
     )
 
+-- a message that decodes begins with its service
+pub service-first : (message : List ℕ) (service : ℕ) (path : List Segment) (body : List ℕ) → requestOf message ≡ request service path body
+    → getD message 0 0 ≡ service
+unfolding requestOf
+service-first message service path body e =
+    let size = 2 * getD message 1 0 in
+    by-test (ltb (length message) (2 + size)) (λ t. clash (cc (rw t at e))) (λ t. go (segments (part message 2 size)) (rw t at e))
+  where
+    go : (l : Option (List Segment)) → withPath (getD message 0 0) l (drop (2 + 2 * getD message 1 0) message) ≡ request service path body
+        → getD message 0 0 ≡ service
+    go none q = clash (cc q)
+    go (some l) q = cc
+
 -- ---- exact bytes, with any data behind them, are a continued read and a continued page
 
 pub exact-asks : (path : List ℕ) (decoded : List Segment) (elements offset : ℕ) (more : List ℕ) → Encodes path decoded → elements < 65536 → offset < 4294967296
     → Asks decoded elements (readRequest path elements offset ++ more) offset
-unfolding readRequest
-exact-asks path decoded elements offset more e few low = record {
-  body = le16 elements ++ (le32 offset ++ more);
-  is = rw (append-assoc (path ++ le16 elements) (le32 offset) more, append-assoc path (le16 elements) (le32 offset ++ more))
-      (decoded-request 0x52 path decoded (le16 elements ++ (le32 offset ++ more)) e);
-  fields = omega arith;
-  count-is = u16-le16 elements (le32 offset ++ more) few;
-  offset-is = u32-le32 offset more low;
-}
+unfolding readRequest readFields
+exact-asks path decoded elements offset more e few low =
+    let long : 6 ≤ length (le16 elements ++ (le32 offset ++ more)) = omega arith in
+    record {
+      service = 0x52;
+      body = le16 elements ++ (le32 offset ++ more);
+      reads = refl;
+      is = rw (append-assoc (path ++ le16 elements) (le32 offset) more, append-assoc path (le16 elements) (le32 offset ++ more))
+          (decoded-request 0x52 path decoded (le16 elements ++ (le32 offset ++ more)) e);
+      fields-are = rw (le-ltb, u16-le16 elements (le32 offset ++ more) few, u32-le32 offset more low);
+    }
+
+pub exact-opens : (path : List ℕ) (decoded : List Segment) (elements : ℕ) (more : List ℕ) → Encodes path decoded → elements < 65536
+    → Asks decoded elements (openRequest path elements ++ more) 0
+unfolding openRequest readFields
+exact-opens path decoded elements more e few =
+    let long : 2 ≤ length (le16 elements ++ more) = omega arith in
+    record {
+      service = 0x4C;
+      body = le16 elements ++ more;
+      reads = refl;
+      is = rw (append-assoc path (le16 elements) more) (decoded-request 0x4C path decoded (le16 elements ++ more) e);
+      fields-are = rw (le-ltb, u16-le16 elements more few);
+    }
 
 pub exact-page : (t : Tables) (scope : ℕ) (attributes path : List ℕ) (id : ℕ) (more : List ℕ) → length attributes < 65536 → every isListed attributes ≡ true
     → Starts-at t scope id path → AsksPage t scope attributes (pageRequest path attributes ++ more) id

@@ -1,6 +1,8 @@
 -- Wrong controllers against the claims: on each list below the premises hold, and the claim is refuted by computation. So the claims shut them out.
+-- And wrong notions of an opening against the right controller: the premises hold in their sense, and the claim is refuted.
 -- Assumes nothing.
 use mathlib.Core.Path.{_≡_, refl, ap}
+use mathlib.Core.Logic.{_⊎_, inr}
 use mathlib.Core.List.{List, [], _∷_}
 use Prim.Native.Nat.{ℕ, zero, suc, _+_, _-_, _*_, _/_}
 use native.Mathlib.Omega.{arith}
@@ -9,7 +11,7 @@ use lib.ListN.{length, getD, take}
 use Rattle.laws.specs.Pick.{pick}
 use Rattle.laws.specs.Put.{put}
 use Rattle.definition.specs.Fragment.{replyCount}
-use Rattle.definition.specs.Pallet.{pallet, palletFlags, palletStart}
+use Rattle.definition.specs.Pallet.{pallet, palletFlags, palletStart, rows}
 use Rattle.definition.specs.Segment.{class, instance}
 use Rattle.definition.specs.Page.{bytesOf}
 use Rattle.definition.specs.Read.{selectedBytes}
@@ -17,8 +19,8 @@ use Rattle.definition.specs.Symbols.{due}
 use Rattle.definition.specs.Entry.{Outcome, refused, replied, Entered}
 use Rattle.continued.specs.Reads.{Sent, Turn, ours, joined, talk, Fair, Delivered}
 use Rattle.continued.specs.Pages.{FairPages, Listed}
-use Rattle.continued.specs.Point3.{Memory, respond, Event, Between, Reads, AsksPage, Pages, pageRequest}
-use Rattle.continued.proofs.Examples.{computed, sent, rowsPath, granted-rows, row, row-asks}
+use Rattle.continued.specs.Point3.{Memory, respond, Event, Between, Asks, Reads, openRequest, AsksPage, Pages, pageRequest}
+use Rattle.continued.proofs.Examples.{computed, sent, rowsPath, granted-rows, row, row-asks, opening, opening-asks}
 
 -- ---- a controller that is the definition's but for its requests or its replies
 
@@ -51,10 +53,15 @@ still e m = m
 
 -- ---- reads of all of `Rows`; the offset's first byte stands at 10
 
+abbrev Undelivered : Controller → List (Turn Event) → Type 0
+Undelivered w turns = Delivered (selectedBytes (granted-rows .selected) palletStart) 2 (talk (hearing w) (leaving w) still 2 palletStart [] turns) → ⊥
+
+abbrev RefutedBy : (reads : Memory → Sent → ℕ → Type 0) → Controller → List (Turn Event) → Type 0
+RefutedBy reads w turns =
+    Fair (hearing w) (leaving w) still reads (selectedBytes (granted-rows .selected)) Between 2 palletStart [] turns × Undelivered w turns
+
 abbrev Refuted : Controller → List (Turn Event) → Type 0
-Refuted w turns =
-    Fair (hearing w) (leaving w) still (Reads rowsPath 10) (selectedBytes (granted-rows .selected)) Between 2 palletStart [] turns
-    × (Delivered (selectedBytes (granted-rows .selected) palletStart) 2 (talk (hearing w) (leaving w) still 2 palletStart [] turns) → ⊥)
+Refuted w turns = RefutedBy (Reads rowsPath 10) w turns
 
 -- one byte is skipped
 skips : Refuted (mistaking 10 suc) (row 22 0 ∷ [])
@@ -116,6 +123,21 @@ crawls = (
   ),
   λ d. omega (arith, d .few (lit≤ tt)),
 )
+
+-- ---- wrong notions of an opening
+
+-- a 0x4C at any offset: the second one brings the first bytes again
+opens-anywhere : RefutedBy (λ m s offset. Asks rowsPath 10 (s .request) offset ⊎ (s .request ≡ openRequest rows 10)) right (opening 22 ∷ opening 22 ∷ [])
+unfolding computed granted-rows
+opens-anywhere = (
+  (inr refl, omega arith, λ r. lit≤ tt, (inr refl, omega arith, λ r. lit≤ tt, tt)),
+  λ d. let z : _≡_ {A = ℕ} 1 17 = ap (λ (l : List ℕ). getD l 16 0) (d .first-of-them) in omega arith,
+)
+
+-- a 0x4C without a bound on its limit: at limit 6 it brings nothing
+opens-at-6 : Asks rowsPath 10 (openRequest rows 10) 0 × Undelivered right (opening 6 ∷ [])
+unfolding computed granted-rows
+opens-at-6 = (opening-asks, λ d. omega (arith, d .each-brings .0))
 
 -- ---- pages of the controller's symbols, names and types; the start ID's byte stands at 5
 

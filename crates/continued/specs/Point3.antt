@@ -6,14 +6,15 @@ use mathlib.Core.Option.{some}
 use Prim.Native.Nat.{ℕ, _*_, _/_, _≤_, _<_}
 use lib.ListN.{length}
 use Rattle.laws.specs.Tests.{every}
-use Rattle.definition.specs.Bytes.{u16At, u32At, le16, le32, counted}
+use Rattle.definition.specs.Bytes.{le16, le32, counted}
 use Rattle.definition.specs.Segment.{Segment, segments}
 use Rattle.definition.specs.Request.{request, requestOf, isTagPath}
 use Rattle.definition.specs.Tables.{Tables, Flags}
 use Rattle.definition.specs.Valid.{valid}
 use Rattle.definition.specs.Access.{tagTarget}
-use Rattle.definition.specs.Read.{Selection, selectedBytes, granted, askTarget}
+use Rattle.definition.specs.Read.{Selection, selectedBytes, granted, askTarget, fields, readFields}
 use Rattle.definition.specs.Symbols.{isListed, pageStart, due}
+use Rattle.definition.specs.Answer.{isRead}
 use Rattle.definition.specs.Entry.{Outcome, Entered, entry}
 use Rattle.definition.specs.Promises.{Grants}
 use Rattle.continued.specs.Reads.{Sent, Turn, talk, Fair, Delivered}
@@ -49,13 +50,18 @@ Between (changed left) m = length left ≡ length m
 
 -- ---- continued reads
 
--- a continued read in any bytes: what the definition reads as a 0x52 of these segments, this element count and this offset, whatever follows the fields
+-- a continued read in any bytes: what the definition decodes as a read, 0x52 or 0x4C, of these segments with this element count and this offset, whatever
+-- follows the fields. A 0x4C's offset is 0 (`Plain-at-0`): so it is one of ours exactly where nothing was received yet, and opens the read
 pub record Asks (path : List Segment) (elements : ℕ) (message : List ℕ) (offset : ℕ) : Type 0 where
+  pub service : ℕ
   pub body : List ℕ
-  pub is : requestOf message ≡ request 0x52 path body
-  pub fields : 6 ≤ length body
-  pub count-is : u16At body 0 ≡ elements
-  pub offset-is : u32At body 2 ≡ offset
+  pub reads : isRead service ≡ true
+  pub is : requestOf message ≡ request service path body
+  pub fields-are : readFields service body ≡ fields elements offset
+
+abbrev pub Plain-at-0 : Type 0
+Plain-at-0 =
+    (path : List Segment) (elements : ℕ) (message : List ℕ) (offset : ℕ) (a : Asks path elements message offset) → a .service ≡ 0x4C → offset ≡ 0
 
 abbrev pub Reads : (path : List Segment) (elements : ℕ) → Memory → Sent → ℕ → Type 0
 Reads path elements m s offset = Asks path elements (s .request) offset
@@ -66,7 +72,8 @@ FairReads t f reads s m turns = Fair (hears t f) (leaves t f) (steps t f) reads 
 abbrev pub ReadsDeliver : Tables → Flags → Selection → Memory → List (Turn Event) → Type 0
 ReadsDeliver t f s m turns = Delivered (selectedBytes s m) (length (s .header)) (talk (hears t f) (leaves t f) (steps t f) (length (s .header)) m [] turns)
 
--- valid tables, and a path and element count that are granted (by `Not-refused` of the definition's Promises: the read at offset 0 has status 0x00 or 0x06)
+-- valid tables, and a path and element count that are granted (by `Opening-not-refused` of the definition's Promises: a read at offset 0, plain or
+-- fragmented, has status 0x00 or 0x06)
 abbrev pub Continued-reads : Type 0
 Continued-reads =
     (t : Tables) (f : Flags) (path : List Segment) (elements : ℕ) (g : Grants t f path elements) (m : Memory) (turns : List (Turn Event))
@@ -108,9 +115,12 @@ pub record Encodes (path : List ℕ) (decoded : List Segment) : Type 0 where
   pub one-byte : length path / 2 ≤ 255
   pub decodes : segments path ≡ some decoded
 
--- the exact bytes of a 0x52 request for a path, an element count and an offset
+-- the exact bytes of a 0x52 request for a path, an element count and an offset, and of a 0x4C request
 unfoldable pub readRequest : (path : List ℕ) (elements offset : ℕ) → List ℕ
 readRequest path elements offset = 0x52 ∷ length path / 2 ∷ path ++ le16 elements ++ le32 offset
+
+unfoldable pub openRequest : (path : List ℕ) (elements : ℕ) → List ℕ
+openRequest path elements = 0x4C ∷ length path / 2 ∷ path ++ le16 elements
 
 -- valid tables; a decodable tag path whose target the definition grants, for a 16-bit element count: what is selected, behind which header
 pub record Readable (t : Tables) (f : Flags) (m : Memory) (path : List ℕ) (elements : ℕ) (s : Selection) : Type 0 where

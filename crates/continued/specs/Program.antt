@@ -1,5 +1,5 @@
 -- Point 3 of a program: a run over a list of turns, and what is heard of it. Nothing is known of the program but that each step leaves the definition's
--- outcome, buffer and memory: `Leaves`. The contracts of `message` and of `answer` on valid tables give such steps; those of the C entry points in `export`.
+-- outcome, buffer and memory: `Leaves`. The contracts of `message` and of `answer` on valid tables give such steps; those of the C entry points in `ciplink`.
 use mathlib.Core.Path.{_≡_}
 use mathlib.Core.Bool.{true}
 use mathlib.Core.List.{List, [], _∷_}

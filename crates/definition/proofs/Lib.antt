@@ -8,6 +8,7 @@ pub mod Granted
 pub mod Inside
 pub mod Lengths
 pub mod Listing
+pub mod OneRead
 pub mod OtherNames
 pub mod Replies
 pub mod Saying

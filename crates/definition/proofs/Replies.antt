@@ -23,7 +23,7 @@ use Rattle.definition.specs.Names.{isProgramName, afterProgram}
 use Rattle.definition.specs.Resolve.{Target, Resolved, found, turned, Move, indexes, member, stray, moves, allBelow, index, memberOf, memberFound, visibleMember, walk, moveTo, andThen, fromTag, byInstance, byName, inScope, inProgram, scopedBy, resolve, wholeTag}
 use Rattle.definition.specs.Access.{isDenied, permitted, tagTarget}
 use Rattle.definition.specs.Fragment.{space, statusOf, fragmentReply}
-use Rattle.definition.specs.Read.{Asked, granted, notGranted, selection, ask, sendFrom, send, readReply, selectedBytes, isFragmented}
+use Rattle.definition.specs.Read.{Asked, granted, notGranted, selection, ask, sendFrom, send, selectedBytes, readAt, ReadFields, fields, short, readFields, readBy, readReply}
 use Rattle.definition.specs.Write.{Stored, store, noStore, storeAnswer, Fields, fieldsSize, fieldsOf, writeStored, writeBit, typeMatches, writeValue, writePart}
 use Rattle.definition.specs.Masked.{takesMask, maskedStored}
 use Rattle.definition.specs.Template.{sendTemplate, templateReply}
@@ -104,12 +104,12 @@ proper-send limit service (granted s) memory offset h =
     pick-all (Proper limit) (leb (length (selectedBytes s memory)) offset) (proper-fail limit service _ refl) (proper-fragment limit service _ _ h)
 proper-send limit service (notGranted status) memory offset k = proper-fail limit service status (k .0)
 
-proper-read : (structures : List Row) (memory : List ℕ) (service : ℕ) (g : Target) (body : List ℕ) (limit : ℕ)
-    → Proper limit (readReply structures memory service g body limit)
-unfolding readReply isStatus some-of
-proper-read structures memory service g body limit =
-    pick-all (Proper limit) (ltb (length body) (pick (isFragmented service) 6 2)) (proper-fail limit service _ refl)
-    (proper-send limit service (ask structures g (u16At body 0)) memory (pick (isFragmented service) (u32At body 2) 0) (ask-well structures g (u16At body 0)))
+proper-read : (structures : List Row) (memory : List ℕ) (service : ℕ) (g : Target) (wanted : ReadFields) (limit : ℕ)
+    → Proper limit (readBy structures memory service g wanted limit)
+unfolding readAt isStatus some-of
+proper-read structures memory service g (fields elements offset) limit =
+    proper-send limit service (ask structures g elements) memory offset (ask-well structures g elements)
+proper-read structures memory service g short limit = proper-fail limit service _ refl
 
 -- ---- writes
 
@@ -301,9 +301,10 @@ proper-page-from t service (some s) body limit = proper-page-of t service s (cou
 
 proper-target : (t : Tables) (memory : List ℕ) (service : ℕ) (r : Resolved) (body : List ℕ) (limit : ℕ) → TurnsWell r
     → Proper limit (onTarget t memory service r body limit .reply)
+unfolding readReply
 proper-target t memory service (turned status) body limit w = proper-fail limit service status (w .0)
 proper-target t memory service (found g) body limit w =
-    pick-all (λ (a : Answer). Proper limit (a .reply)) (isRead service) (proper-read (t .structures) memory service g body limit)
+    pick-all (λ (a : Answer). Proper limit (a .reply)) (isRead service) (proper-read (t .structures) memory service g (readFields service body) limit)
     (pick-all (λ (a : Answer). Proper limit (a .reply)) (eqb service 0x4E)
     (proper-store limit service (maskedStored memory g body) memory (masked-well memory g body))
     (proper-store limit service (writeStored (t .structures) memory service g body) memory (write-well (t .structures) memory service g body)))

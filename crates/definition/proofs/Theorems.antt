@@ -1,5 +1,5 @@
--- The theorems that specs/Promises.antt states, but for `Not-refused` (Granted), `Target-lies-in-its-tag` (Inside) and
--- `Memory-keeps-its-length` (Stored).
+-- The theorems that specs/Promises.antt states, but for `Not-refused` and `Opening-not-refused` (Granted), `Target-lies-in-its-tag` (Inside),
+-- `Memory-keeps-its-length` (Stored), and those of document 02's names (OtherNames) and reads (OneRead).
 -- Assumes nothing.
 use mathlib.Core.Path.{_≡_, refl, sym, ap, _∙_, subst}
 use mathlib.Core.Logic.{_≢_}
@@ -19,6 +19,7 @@ use Rattle.definition.specs.Reply.{Answer, reply}
 use Rattle.definition.specs.Segment.{Segment, segments}
 use Rattle.definition.specs.Request.{Request, malformed, request, requestOf, withPath}
 use Rattle.definition.specs.Tables.{Tables, Flags}
+use Rattle.definition.specs.Valid.{valid}
 use Rattle.definition.specs.Types.{atomicSize, isStructure, typeHeader}
 use Rattle.definition.specs.Masked.{masked, maskedStored}
 use Rattle.definition.specs.Resolve.{Resolved, found, turned}
@@ -45,16 +46,22 @@ refusal-changes-nothing t f memory message limit buffer number e = go (enters t 
         (omega arith, omega arith, ap (λ (x : Entered). x .buffer) p, ap (λ (x : Entered). x .memory) p)
     go (taken a b c d p) = absurd (let z : _≡_ {A = ℕ} 0 1 = cc (ap (λ (x : Entered). x .outcome) p) in omega arith)
 
--- what is replied is the dispatcher's, and proper
+-- what holds of the dispatcher's reply where the tables are valid holds of the reply
+pub past-entry : (P : List ℕ → Type 0) (t : Tables) (f : Flags) (memory message : List ℕ) (limit : ℕ) (buffer r : List ℕ)
+    → entry t f memory message limit buffer .outcome ≡ replied r → (valid t (length memory) ≡ true → P (answer t f memory message limit .reply)) → P r
+past-entry P t f memory message limit buffer r e p = go (enters t f memory message limit buffer)
+  where
+    go : Ways t f memory message limit buffer → P r
+    go (stopped k low high q) = no-reply _ k buffer memory r q e
+    go (taken a b c d q) =
+        let same : answer t f memory message limit .reply ≡ r = cc (ap (λ (x : Entered). x .outcome) q) in
+        subst P same (p d)
+
+-- what is replied is proper
 proper : (t : Tables) (f : Flags) (memory message : List ℕ) (limit : ℕ) (buffer r : List ℕ)
     → entry t f memory message limit buffer .outcome ≡ replied r → Proper limit r
-proper t f memory message limit buffer r e = go (enters t f memory message limit buffer)
-  where
-    go : Ways t f memory message limit buffer → Proper limit r
-    go (stopped k low high p) = no-reply _ k buffer memory r p e
-    go (taken a b c d p) =
-        let same : answer t f memory message limit .reply ≡ r = cc (ap (λ (x : Entered). x .outcome) p) in
-        subst (Proper limit) same (proper-answer t f memory message limit)
+proper t f memory message limit buffer r e =
+    past-entry (Proper limit) t f memory message limit buffer r e (λ ok. proper-answer t f memory message limit)
 
 pub reply-fits : Reply-fits
 reply-fits t f memory message limit buffer r e = proper t f memory message limit buffer r e .fits

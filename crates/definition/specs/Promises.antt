@@ -1,4 +1,4 @@
--- Theorems about the definition, each a named statement; proofs/Theorems, Granted, Inside, Stored and OtherNames prove them.
+-- Theorems about the definition, each a named statement; proofs/Theorems, Granted, Inside, Stored, OtherNames and OneRead prove them.
 -- Points 1 to 3 are those of document 00: the first part is point 1, and what points 2 and 3 lean on follows; then what document 02 adds.
 use mathlib.Core.Path.{_≡_}
 use mathlib.Core.Logic.{_≢_, _↔_, _⊎_}
@@ -6,12 +6,12 @@ use mathlib.Core.Bool.{Bool, true, false}
 use mathlib.Core.List.{List, [], _∷_}
 use Prim.Native.Nat.{ℕ, _+_, _*_, _≤_, _<_}
 use lib.Bits.{bitOr, bitAnd}
-use lib.Dec.{eqb}
-use lib.ListN.{length, getD}
-use Rattle.laws.specs.Pick.{_&_}
+use lib.Dec.{ltb, eqb}
+use lib.ListN.{length, getD, drop}
+use Rattle.laws.specs.Pick.{pick, _&_}
 use Rattle.laws.specs.Tests.{every, pairs, some-of}
 use Rattle.definition.specs.Bytes.{u16At, u32At}
-use Rattle.definition.specs.Reply.{room}
+use Rattle.definition.specs.Reply.{room, fail, tooShort}
 use Rattle.definition.specs.Segment.{Segment}
 use Rattle.definition.specs.Request.{request, requestOf, isTagPath}
 use Rattle.definition.specs.Tables.{Tables, Flags, Row, noBit, structureName, memberName, programName, tagName, tagOffset, otherName}
@@ -20,10 +20,10 @@ use Rattle.definition.specs.Lookup.{tagAt}
 use Rattle.definition.specs.Valid.{encoded, t1, isName, isOtherName, tagNamesDiffer, otherNamesDiffer, programNamesDiffer, t3, t4, t5, t6, valid, tagEnd}
 use Rattle.definition.specs.Resolve.{Target, found}
 use Rattle.definition.specs.Access.{tagTarget}
-use Rattle.definition.specs.Read.{Selection, granted, askTarget}
+use Rattle.definition.specs.Read.{Selection, granted, ask, askTarget, send, readAt, ReadFields, fields, readFields, readReply}
 use Rattle.definition.specs.Masked.{masked}
 use Rattle.definition.specs.Envelope.{envelopeService, partAnswer}
-use Rattle.definition.specs.Answer.{isWrite, partDispatch, answer}
+use Rattle.definition.specs.Answer.{isRead, isWrite, partDispatch, answer}
 use Rattle.definition.specs.Entry.{refused, replied, entry}
 
 -- ---- for all tables, flags, memories, messages, limits and buffers
@@ -145,3 +145,37 @@ What-was-valid-is-valid =
 
 abbrev pub Other-name-has-at-most-48-bytes : Type 0
 Other-name-has-at-most-48-bytes = (name : List ℕ) → isOtherName name ≡ true → length name ≤ 48
+
+-- ---- document 02, P3: one read
+
+-- no reply changed: by fields and one read a request is answered as it was in one step
+abbrev pub Replies-as-before : Type 0
+Replies-as-before =
+    (structures : List Row) (memory : List ℕ) (service : ℕ) (g : Target) (body : List ℕ) (limit : ℕ)
+    → readReply structures memory service g body limit
+    ≡ pick (ltb (length body) (pick (eqb service 0x52) 6 2)) (fail service tooShort)
+    (send service (ask structures g (u16At body 0)) memory (pick (eqb service 0x52) (u32At body 2) 0) limit)
+
+-- the service decides nothing behind the reply's first byte
+abbrev pub One-read : Type 0
+One-read =
+    (structures : List Row) (memory : List ℕ) (one other : ℕ) (g : Target) (elements offset limit : ℕ)
+    → drop 1 (readAt structures memory one g elements offset limit) ≡ drop 1 (readAt structures memory other g elements offset limit)
+
+-- two messages, a and b, that are reads of one tag path with the same fields, plain or fragmented, are answered alike behind that byte
+abbrev pub Reads-alike : Type 0
+Reads-alike =
+    (t : Tables) (f : Flags) (memory a b : List ℕ) (limit : ℕ) (path : List Segment) (service-a service-b : ℕ) (body-a body-b : List ℕ)
+    → isTagPath path ≡ true → isRead service-a ≡ true → isRead service-b ≡ true
+    → requestOf a ≡ request service-a path body-a → requestOf b ≡ request service-b path body-b
+    → readFields service-a body-a ≡ readFields service-b body-b
+    → drop 1 (answer t f memory a limit .reply) ≡ drop 1 (answer t f memory b limit .reply)
+
+-- once past the entry, a read of a tag path at offset 0, plain or fragmented, has status 0x00 or 0x06 exactly where path and element count are granted
+abbrev pub Opening-not-refused : Type 0
+Opening-not-refused =
+    (t : Tables) (f : Flags) (memory message : List ℕ) (limit : ℕ) (buffer r : List ℕ) (service : ℕ) (path : List Segment) (body : List ℕ) (elements : ℕ)
+    → isTagPath path ≡ true → isRead service ≡ true
+    → requestOf message ≡ request service path body → readFields service body ≡ fields elements 0
+    → entry t f memory message limit buffer .outcome ≡ replied r
+    → ((getD r 2 0 ≡ 0x00) ⊎ (getD r 2 0 ≡ 0x06)) ↔ Grants t f path elements

@@ -1,4 +1,4 @@
--- Document 01, item 16 and "Fragment": reads, plain (0x4C) and fragmented (0x52).
+-- Document 01, item 16 and "Fragment", and document 02, P3: one read. Plain (0x4C) and fragmented (0x52) requests differ in their fields alone.
 -- 1756-PM020 (Read Tag, Read Tag Fragmented) defines the request's fields and the reply's header and data; document 01 alone the refusals' order.
 use mathlib.Core.Bool.{Bool}
 use mathlib.Core.List.{List, [], _∷_}
@@ -63,12 +63,33 @@ abbrev pub send : (service : ℕ) → Asked → (memory : List ℕ) (offset limi
 send service (granted s) memory offset limit = sendFrom service (s .header) (selectedBytes s memory) offset limit
 send service (notGranted status) memory offset limit = fail service status
 
--- 0x52 has an offset of 32 bits behind the 16-bit element count; data beyond these fields is ignored [PM020]
+-- ---- one read: of so many elements of a target, from an offset on; the service goes into the reply's first byte and decides nothing [02]
+
+unfoldable pub readAt : (structures : List Row) (memory : List ℕ) (service : ℕ) → Target → (elements offset limit : ℕ) → List ℕ
+readAt structures memory service g elements offset limit = send service (ask structures g elements) memory offset limit
+
+-- ---- whoever decodes the request says elements and offset, or that data is missing
+
+pub data ReadFields : Type 0 where
+  fields : (elements offset : ℕ) → ReadFields
+  short : ReadFields
+
+-- [PM020]
 abbrev pub isFragmented : (service : ℕ) → Bool
 isFragmented service = eqb service 0x52
 
+-- a 16-bit element count; behind it 0x52 has an offset of 32 bits, and 0x4C's is 0. Data beyond these fields is ignored [PM020]
+unfoldable pub readFields : (service : ℕ) (body : List ℕ) → ReadFields
+readFields service body =
+    pick (isFragmented service)
+    (pick (ltb (length body) 6) short (fields (u16At body 0) (u32At body 2)))
+    (pick (ltb (length body) 2) short (fields (u16At body 0) 0))
+
+-- [01]
+abbrev pub readBy : (structures : List Row) (memory : List ℕ) (service : ℕ) → Target → ReadFields → (limit : ℕ) → List ℕ
+readBy structures memory service g (fields elements offset) limit = readAt structures memory service g elements offset limit
+readBy structures memory service g short limit = fail service tooShort
+
 -- [01]
 unfoldable pub readReply : (structures : List Row) (memory : List ℕ) (service : ℕ) → Target → (body : List ℕ) (limit : ℕ) → List ℕ
-readReply structures memory service g body limit =
-    pick (ltb (length body) (pick (isFragmented service) 6 2)) (fail service tooShort)
-    (send service (ask structures g (u16At body 0)) memory (pick (isFragmented service) (u32At body 2) 0) limit)
+readReply structures memory service g body limit = readBy structures memory service g (readFields service body) limit

@@ -12,18 +12,18 @@ use borrow.Author.Tests.{eq-eqb, ne-eqb, lt-leb, lt-ltb, le-ltb, ltb-false, eqb-
 use Rattle.laws.specs.Put.{put, zeroed}
 use Rattle.laws.proofs.Chain.{by-test, pick-all, clash}
 use Rattle.laws.proofs.Put.{put-then, length-part, part-of-part}
-use Rattle.definition.specs.Bytes.{u16At, part}
-use Rattle.definition.specs.Reply.{Status, general, extended, reply, fail, room, tooShort}
+use Rattle.definition.specs.Bytes.{part}
+use Rattle.definition.specs.Reply.{Status, general, extended, reply, fail, room}
 use Rattle.definition.specs.Tables.{Row, noBit}
 use Rattle.definition.specs.Types.{isStructure, sizeIn, typeHeader}
 use Rattle.definition.specs.Resolve.{Target}
 use Rattle.definition.specs.Fragment.{space, sizeOf, statusOf as fragmentStatus, fragmentReply}
-use Rattle.definition.specs.Read.{bitOf, isFragmented, selectedBytes, granted, selection, ask, sendFrom, send, readReply}
+use Rattle.definition.specs.Read.{bitOf, selectedBytes, granted, selection, ask, sendFrom, send, readAt}
 use Rattle.definition.proofs.Cut.{size-le, size-fits}
 use Rattle.cip.specs.Statuses.{statusOf, hasWord}
 use Rattle.cip.specs.Writes.{Written, Laid}
 use Rattle.cip.proofs.Laws.{finished}
-use Rattle.reads.specs.Reading.{grantOf, askedBy, headerSize, readFields, readOffset}
+use Rattle.reads.specs.Reading.{grantOf, askedBy, headerSize}
 use Rattle.reads.specs.declared.Grant.{Grant}
 use Rattle.reads.specs.declared.Grant.the-variants.{Granted, Refused}
 use Rattle.cip.specs.declared.Status.{Status as CodeStatus}
@@ -47,25 +47,19 @@ granted-few bit count elements v h p q =
     (λ z. by-test (ltb count elements) (λ l. clash (cc (rw (b, z, l) at e))) (λ l. ltb-false count elements l)))
     (λ b. by-test (eqb elements 1) (λ o. omega (arith, eqb-true elements 1 o)) (λ o. clash (cc (rw (b, o) at e))))
 
-module _ (structures : List Row) (memory : List ℕ) (service : ℕ) (g : Target) (body : List ℕ) (limit : ℕ) (old z : List ℕ) (k r : ℕ)
-    (fields : k ≡ readFields service) where
-  pub read-short : length body < k → Laid limit (fail service tooShort) old r z → Laid limit (readReply structures memory service g body limit) old r z
-  unfolding readReply
-  read-short h d = rw (← fields, lt-ltb _ _ h) d
+module _ (structures : List Row) (memory : List ℕ) (service : ℕ) (g : Target) (elements offset limit : ℕ) (old z : List ℕ) (r : ℕ) (v : Grant)
+    (asked : v ≡ grantOf (g .bit) (g .count) elements) where
+  read-by : readAt structures memory service g elements offset limit ≡ send service (askedBy (selection structures g elements) v) memory offset limit
+  unfolding readAt
+  read-by = rw (ask-by structures g elements, ← asked)
 
-  module _ (elements count offset : ℕ) (v : Grant) (long : k ≤ length body) (counts : count ≡ u16At body 0) (wide : elements ≡ count)
-      (from : offset ≡ readOffset service body) (asked : v ≡ grantOf (g .bit) (g .count) elements) where
-    read-by : readReply structures memory service g body limit ≡ send service (askedBy (selection structures g elements) v) memory offset limit
-    unfolding readReply
-    read-by = rw (← fields, le-ltb _ _ long, ← counts, ← wide, ← from, ask-by structures g elements, ← asked)
+  pub read-granted : v ≡ Granted → Laid limit (send service (granted (selection structures g elements)) memory offset limit) old r z
+      → Laid limit (readAt structures memory service g elements offset limit) old r z
+  read-granted e d = rw (read-by, e) d
 
-    pub read-granted : v ≡ Granted → Laid limit (send service (granted (selection structures g elements)) memory offset limit) old r z
-        → Laid limit (readReply structures memory service g body limit) old r z
-    read-granted e d = rw (read-by, e) d
-
-    pub read-refused : (s : CodeStatus) → v ≡ Refused s → Laid limit (fail service (statusOf s)) old r z
-        → Laid limit (readReply structures memory service g body limit) old r z
-    read-refused s e d = rw (read-by, e) d
+  pub read-refused : (s : CodeStatus) → v ≡ Refused s → Laid limit (fail service (statusOf s)) old r z
+      → Laid limit (readAt structures memory service g elements offset limit) old r z
+  read-refused s e d = rw (read-by, e) d
 
 -- ---- a fragment
 
@@ -156,7 +150,3 @@ module _ (structures : List Row) (memory : List ℕ) (g : Target) (elements serv
       → Laid limit (send service (granted (selection structures g elements)) memory offset limit) old r z
   unfolding selectedBytes selection
   part-sent size b e d = rw (eq-eqb _ _ b, ← e) d
-
--- a read's fields begin with its element count
-pub count-there : (service k n : ℕ) → k ≡ readFields service → k ≤ n → 2 ≤ n
-count-there service k n e h = by-test (isFragmented service) (λ t. omega (arith, rw t at e)) (λ t. omega (arith, rw t at e))

@@ -1,16 +1,21 @@
--- A read's refusals as the code's enum has them, and the sizes of its fields and of a type header.
-use mathlib.Core.List.{List}
+-- A read's fields and its refusals as the code's enums have them, and the size of a type header.
 use Prim.Native.Nat.{ℕ}
 use lib.Dec.{ltb, eqb}
 use Rattle.laws.specs.Pick.{pick}
-use Rattle.definition.specs.Bytes.{u32At}
 use Rattle.definition.specs.Tables.{noBit}
 use Rattle.definition.specs.Types.{isStructure}
-use Rattle.definition.specs.Read.{Selection, Asked, granted, notGranted, isFragmented}
+use Rattle.definition.specs.Read.{Selection, Asked, granted, notGranted, ReadFields, fields, short}
 use Rattle.cip.specs.Statuses.{statusOf}
 use Rattle.cip.specs.declared.Status.the-variants.{NoElements, BeyondEnd}
+use Rattle.reads.specs.declared.Fields.{Fields}
+use Rattle.reads.specs.declared.Fields.the-variants.{Of, Short}
 use Rattle.reads.specs.declared.Grant.{Grant}
 use Rattle.reads.specs.declared.Grant.the-variants.{Granted, Refused}
+
+-- the fields that the code's answer stands for
+abbrev pub fieldsAs : Fields → ReadFields
+fieldsAs (Of elements offset) = fields elements offset
+fieldsAs Short = short
 
 abbrev pub grantOf : (bit count elements : ℕ) → Grant
 grantOf bit count elements =
@@ -25,9 +30,3 @@ askedBy s (Refused status) = notGranted (statusOf status)
 
 abbrev pub headerSize : (type : ℕ) → ℕ
 headerSize type = pick (isStructure type) 4 2
-
-abbrev pub readFields : (service : ℕ) → ℕ
-readFields service = pick (isFragmented service) 6 2
-
-abbrev pub readOffset : (service : ℕ) (body : List ℕ) → ℕ
-readOffset service body = pick (isFragmented service) (u32At body 2) 0

@@ -1,4 +1,5 @@
-// Reads of a resolved target in tag memory, plain (0x4C) and fragmented (0x52): whether one is granted, how much of what is due fits, and the reply.
+// Reads of a resolved target in tag memory: the fields of a request, plain (0x4C) or fragmented (0x52), and one read for both: whether it is granted, how
+// much of what is due fits, and the reply.
 pub mod bits;
 
 use cip::Status;
@@ -16,11 +17,17 @@ ghost use Rattle.definition.specs.Bytes.{part};
 ghost use Rattle.definition.specs.Reply.{reply, general, room};
 ghost use Rattle.definition.specs.Types.{typeHeader};
 ghost use Rattle.definition.specs.Fragment.{space, rounded, sizeOf, statusOf as fragmentStatus};
-ghost use Rattle.definition.specs.Read.{granted, selection, sendFrom, send, readReply};
+ghost use Rattle.definition.specs.Read.{granted, selection, sendFrom, send, readAt, readFields};
 ghost use Rattle.cip.specs.Statuses.{statusOf, hasWord};
 ghost use Rattle.cip.specs.Writes.{Written, Laid};
 ghost use Rattle.model.specs.Tables.{targetOf, Aimed};
-ghost use Rattle.reads.specs.Reading.{grantOf, headerSize, readFields, readOffset};
+ghost use Rattle.reads.specs.Reading.{fieldsAs, grantOf, headerSize};
+
+/// What a read is asked for: elements and offset, or data is missing.
+pub enum Fields {
+    Of(usize, usize),
+    Short,
+}
 
 /// Whether a read may send something, offset aside.
 pub enum Grant {
@@ -179,46 +186,43 @@ fn send_selected<'a>(
     send_from(structures, templates, memory, g.ty, start, size, q, buf)
 }
 
-/// The bytes of a read's fields.
-fn fields_size(service: u8) -> usize
-    ensures { λ r. ⌜ r ≡ readFields service ⌝ }
-{
-    if service == READ_FRAGMENTED { 6 } else { 2 }
-}
-
-/// A read's offset, 0 where it brings none.
-fn offset_of(service: u8, body: &[u8]) -> usize
-    requires { ⌜ readFields service ≤ length (now body) ⌝ }
-    ensures { λ r. ⌜ r ≡ readOffset service (now (body .entry)) ⌝ }
+/// What a read's data says: 0x4C brings an element count and has offset 0, 0x52 an offset behind the count. What
+/// follows is ignored.
+pub fn read_fields(service: u8, body: &[u8]) -> Fields
+    ensures { λ r. ⌜ fieldsAs r ≡ readFields service (now (body .entry)) ⌝ }
 {
     if service == READ_FRAGMENTED {
-        return cip::numbers::wide(cip::u32_at(body, 2));
+        if body.len() < 6 {
+            return Fields::Short;
+        }
+        let offset = cip::numbers::wide(cip::u32_at(body, 2));
+        return Fields::Of(cip::numbers::wide16(cip::u16_at(body, 0)), offset);
     }
-    0
+    if body.len() < 2 {
+        return Fields::Short;
+    }
+    Fields::Of(cip::numbers::wide16(cip::u16_at(body, 0)), 0)
 }
 
-/// A read of a resolved target; returns the reply's length.
+/// One read of a resolved target, whoever decoded it; returns the reply's length.
 pub fn read<'a>(
     structures: &[[u32; 10]],
     templates: &'a [u8],
     memory: &'a [u8],
     service: u8,
     g: Target,
-    body: &[u8],
+    elements: usize,
+    offset: usize,
     limit: usize,
     buf: &mut [u8],
 ) -> usize
     requires { ⌜ Aimed (now structures) (length (now memory)) g × (room limit ≤ length (now buf)) ⌝ }
-    ensures { λ r. ⌜ Laid limit (readReply (now (structures .entry)) (now (memory .entry)) service (targetOf g []) (now (body .entry)) limit)
+    ensures { λ r. ⌜ Laid limit (readAt (now (structures .entry)) (now (memory .entry)) service (targetOf g []) elements offset limit)
         (now (buf .entry)) r (now (buf .exit)) ⌝ }
 {
-    if body.len() < fields_size(service) {
-        return cip::fail(buf, limit, service, Status::TooShort);
-    }
-    let elements = cip::numbers::wide16(cip::u16_at(body, 0));
     let q = Sending {
         service: service,
-        offset: offset_of(service, body),
+        offset: offset,
         limit: limit,
     };
     match ask_of(g.bit, g.count, elements) {

@@ -7,10 +7,10 @@ use mathlib.Core.Logic.{_≢_}
 use Prim.Native.Nat.{ℕ}
 use borrow.Author.Tests.{eq-eqb, ne-eqb}
 use Rattle.laws.specs.Pick.{isSome}
-use Rattle.definition.specs.Reply.{answered, fail}
+use Rattle.definition.specs.Reply.{answered, fail, tooShort}
 use Rattle.definition.specs.Segment.{segments}
 use Rattle.definition.specs.Tables.{Tables, Flags, Row}
-use Rattle.definition.specs.Read.{readReply}
+use Rattle.definition.specs.Read.{readAt, readFields, readReply}
 use Rattle.definition.specs.Write.{Stored, storeAnswer, writeStored}
 use Rattle.definition.specs.Masked.{maskedStored}
 use Rattle.definition.specs.Resolve.{turned}
@@ -26,6 +26,9 @@ use Rattle.resolve.specs.Answers.{Targets}
 use Rattle.resolve.specs.declared.Resolved.{Resolved}
 use Rattle.resolve.specs.declared.Resolved.the-variants.{Found, Turned}
 use Rattle.resolve.proofs.Answering.{found-aimed}
+use Rattle.reads.specs.Reading.{fieldsAs}
+use Rattle.reads.specs.declared.Fields.{Fields}
+use Rattle.reads.specs.declared.Fields.the-variants.{Of, Short}
 use Rattle.reads.proofs.Lengths.{read-any-lengths}
 use Rattle.writes.specs.Storing.{Stores}
 use Rattle.writes.proofs.Lengths.{write-any-lengths, masked-any-lengths}
@@ -36,6 +39,20 @@ use Rattle.services.specs.Services.{onFound}
 pub laid-answers : (limit : ℕ) (bytes old : List ℕ) (r : ℕ) (new memory : List ℕ) → Laid limit bytes old r new
     → Answers limit (answered bytes memory) old r new memory
 laid-answers limit bytes old r new memory h = record { length-is = h .length-is; buffer-is = h .buffer-is; memory-is = refl }
+
+-- a read by its fields, as the code has them
+module _ (structures : List Row) (memory : List ℕ) (service : ℕ) (g : Target) (body : List ℕ) (limit : ℕ) (old : List ℕ) (r : ℕ) (new : List ℕ) (w : Fields)
+    (decoded : fieldsAs w ≡ readFields service body) where
+  pub read-of : (elements offset : ℕ) → w ≡ Of elements offset
+      → Laid limit (readAt structures memory service (targetOf g []) elements offset limit) old r new
+      → Laid limit (readReply structures memory service (targetOf g []) body limit) old r new
+  unfolding readReply
+  read-of elements offset e h = rw (← decoded, e) h
+
+  pub read-short : w ≡ Short → Laid limit (fail service tooShort) old r new
+      → Laid limit (readReply structures memory service (targetOf g []) body limit) old r new
+  unfolding readReply
+  read-short e h = rw (← decoded, e) h
 
 -- a write's answer, by its status
 stored-answers : (limit service : ℕ) (s : Stored) (old : List ℕ) (r : ℕ) (new before after : List ℕ) (status : Status)
@@ -89,7 +106,7 @@ module _ (tables : Tables) (f : Flags) (memory : List ℕ) (service : ℕ) (path
         rw (
           ← is,
           t .is,
-          read-any-lengths (tables .structures) memory g n body service limit,
+          read-any-lengths (tables .structures) memory service g n limit body,
           write-any-lengths (tables .structures) memory g n body service,
           masked-any-lengths (tables .structures) memory g n body,
         )

@@ -1,4 +1,5 @@
 // Items 14 to 18: the services of a tag, from its path to tag memory.
+use cip::Status;
 use cip::codes::READ;
 use cip::codes::READ_FRAGMENTED;
 use cip::codes::WRITE;
@@ -6,6 +7,7 @@ use cip::codes::WRITE_FRAGMENTED;
 use cip::codes::WRITE_MASKED;
 use model::Flags;
 use model::Target;
+use reads::Fields;
 use resolve::Resolved;
 ghost use mathlib.Core.Path.{_≡_};
 ghost use mathlib.Core.Bool.{true};
@@ -15,8 +17,10 @@ ghost use lib.ListN.{length};
 ghost use Rattle.laws.specs.Pick.{isSome};
 ghost use Rattle.definition.specs.Reply.{room};
 ghost use Rattle.definition.specs.Segment.{segments};
+ghost use Rattle.definition.specs.Read.{readReply};
 ghost use Rattle.definition.specs.Valid.{valid};
 ghost use Rattle.definition.specs.Answer.{isRead, isWrite, isTagService, tagService};
+ghost use Rattle.cip.specs.Writes.{Laid};
 ghost use Rattle.model.specs.Tables.{tablesOf, flagsOf, targetOf, Aimed};
 ghost use Rattle.services.specs.Answers.{Answers, OnPath};
 ghost use Rattle.services.specs.Services.{onFound};
@@ -51,6 +55,41 @@ pub fn is_tag_service(service: u8) -> bool
     is_write(service)
 }
 
+/// Decodes what a read is asked for, and reads: elements from an offset on, which is 0 where the request brings none.
+fn serve_read<'a>(
+    structures: &[[u32; 10]],
+    templates: &'a [u8],
+    memory: &'a [u8],
+    service: u8,
+    g: Target,
+    body: &[u8],
+    limit: usize,
+    buf: &mut [u8],
+) -> usize
+    requires { ⌜ Aimed (now structures) (length (now memory)) g × (room limit ≤ length (now buf)) ⌝ }
+    ensures { λ r. ⌜ Laid limit (readReply (now (structures .entry)) (now (memory .entry)) service (targetOf g []) (now (body .entry)) limit)
+        (now (buf .entry)) r (now (buf .exit)) ⌝ }
+{
+    match reads::read_fields(service, body) {
+        Fields::Of(elements, offset) => {
+            return reads::read(
+                structures,
+                templates,
+                memory,
+                service,
+                g,
+                elements,
+                offset,
+                limit,
+                buf,
+            );
+        }
+        Fields::Short => {
+            return cip::fail(buf, limit, service, Status::TooShort);
+        }
+    }
+}
+
 /// Reads or writes a resolved target; a write's status is its whole reply.
 fn serve(
     structures: &[[u32; 10]],
@@ -67,7 +106,7 @@ fn serve(
         (now (buf .entry)) r (now (buf .exit)) (now (memory .exit)) ⌝ }
 {
     if is_read(service) {
-        return reads::read(structures, templates, memory, service, g, body, limit, buf);
+        return serve_read(structures, templates, memory, service, g, body, limit, buf);
     }
     if service == WRITE_MASKED {
         let status = writes::masks::masked_write(memory, g, body);
