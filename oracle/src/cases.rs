@@ -77,7 +77,7 @@ pub fn sound(seed: u64, set: Set) -> Set {
 /// Makes the cases of a valid table set, each starting from the tag memory that the one before it left: `rng` gives
 /// messages and limits, `entry` buffers and refusals. Answers how many reads, template reads and symbol pages went on to
 /// their end.
-pub fn talk(set: &Set, rng: &mut Rng, entry: &mut Rng, wanted: Wanted, mut each: impl FnMut(Case)) -> [u64; 3] {
+pub fn talk(set: &Set, rng: &mut Rng, entry: &mut Rng, wanted: Wanted, mut each: impl FnMut(Case)) -> [u64; 4] {
     let mut logix = Logix::from_rows(&set.tables, set.flags, &set.memory);
     let mut memory = set.memory.clone();
     let mut talk = Talk::new(set, rng, wanted.most);

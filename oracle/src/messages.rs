@@ -7,7 +7,8 @@ use crate::tables::{ATOMICS, Set, size_of};
 /// A request that a status 0x06 lets go on.
 #[derive(Clone)]
 enum Again {
-    Read { path: Vec<u8>, elements: u16, offset: u32 },
+    /// `opened`: by a 0x4C.
+    Read { path: Vec<u8>, elements: u16, offset: u32, opened: bool },
     Template { path: Vec<u8>, offset: u32, wanted: u16 },
     Page { prefix: Vec<u8>, attributes: Vec<u16> },
 }
@@ -22,8 +23,8 @@ pub struct Talk<'a> {
     next: Option<(Vec<u8>, Again)>,
     /// Whether the request at hand goes on from a status 0x06.
     going_on: bool,
-    /// Reads, template reads and symbol pages that went on to their end.
-    pub finished: [u64; 3],
+    /// Reads, those of them that a 0x4C opened, template reads and symbol pages that went on to their end.
+    pub finished: [u64; 4],
     /// The limit decides about the request at hand: it is to be close to the reply's length.
     tight: bool,
 }
@@ -38,7 +39,7 @@ fn le16(n: u32) -> [u8; 2] {
 
 impl<'a> Talk<'a> {
     pub fn new(set: &'a Set, rng: &'a mut Rng, most: usize) -> Self {
-        Talk { set, rng, most, sent: None, next: None, going_on: false, finished: [0; 3], tight: false }
+        Talk { set, rng, most, sent: None, next: None, going_on: false, finished: [0; 4], tight: false }
     }
 
     /// The next request.
@@ -87,22 +88,24 @@ impl<'a> Talk<'a> {
     pub fn heard(&mut self, reply: &[u8]) {
         let Some(again) = self.sent.take() else { return };
         if self.going_on && reply.get(2) == Some(&0) {
-            let kind = match again {
-                Again::Read { .. } => 0,
-                Again::Template { .. } => 1,
-                Again::Page { .. } => 2,
-            };
-            self.finished[kind] += 1;
+            match again {
+                Again::Read { opened, .. } => {
+                    self.finished[0] += 1;
+                    self.finished[1] += u64::from(opened);
+                }
+                Again::Template { .. } => self.finished[2] += 1,
+                Again::Page { .. } => self.finished[3] += 1,
+            }
         }
         if reply.get(2) != Some(&0x06) {
             return;
         }
         self.next = match again {
-            Again::Read { path, elements, offset } => {
+            Again::Read { path, elements, offset, opened } => {
                 let header = if reply[4..6] == [0xA0, 0x02] { 8 } else { 6 };
                 let offset = offset + (reply.len() - header) as u32;
                 let data = [&elements.to_le_bytes()[..], &offset.to_le_bytes()].concat();
-                Some((request(0x52, &path, &data), Again::Read { path, elements, offset }))
+                Some((request(0x52, &path, &data), Again::Read { path, elements, offset, opened }))
             }
             Again::Template { path, offset, wanted } => {
                 let got = reply.len() - 4;
@@ -172,12 +175,17 @@ impl<'a> Talk<'a> {
         let (path, aim) = self.aimed_path(30);
         let elements = self.count(&aim);
         if self.rng.chance(50) {
-            let data = self.nearly(le16(elements).to_vec());
+            self.sent = Some(Again::Read { path: path.clone(), elements: elements as u16, offset: 0, opened: true });
+            let mut data = self.nearly(le16(elements).to_vec());
+            if self.rng.chance(15) {
+                // four bytes that would be an offset, were this a 0x52
+                data.extend(self.rng.below(20).to_le_bytes());
+            }
             return request(0x4C, &path, &data);
         }
         let total = size_of(&self.set.tables, aim.ty).saturating_mul(elements);
         let offset = self.offset(total);
-        self.sent = Some(Again::Read { path: path.clone(), elements: elements as u16, offset });
+        self.sent = Some(Again::Read { path: path.clone(), elements: elements as u16, offset, opened: false });
         let data = [&le16(elements)[..], &offset.to_le_bytes()].concat();
         let data = self.nearly(data);
         request(0x52, &path, &data)

@@ -53,7 +53,7 @@ struct Comparison {
     breaches: Breaches,
     /// Messages by the flags' bits.
     flags: [u64; 16],
-    finished: [u64; 3],
+    finished: [u64; 4],
     /// Other symbols with a name of more than 40 bytes, and symbol pages that list such a name.
     long_symbols: usize,
     long_pages: u64,
@@ -205,8 +205,8 @@ impl Comparison {
         self.tally.print_refused();
         let fewest = self.flags.iter().min().expect("sixteen");
         println!("each of the 16 combinations of flags: at least {fewest} messages");
-        let [reads, templates, pages] = self.finished;
-        println!("continued to the end: {reads} reads, {templates} template reads, {pages} symbol pages");
+        let [reads, opened, templates, pages] = self.finished;
+        println!("continued to the end: {reads} reads ({opened} opened by 4C), {templates} template reads, {pages} symbol pages");
         let (symbols, pages) = (self.long_symbols, self.long_pages);
         println!("other symbols of more than 40 bytes: {symbols}, symbol pages that list one: {pages}");
         println!("longest reply {} bytes, largest tag table {} tags", self.longest, self.most_tags);

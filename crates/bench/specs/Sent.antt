@@ -3,24 +3,9 @@ use mathlib.Core.Path.{_≡_}
 use mathlib.Core.List.{List}
 use Prim.Native.Nat.{ℕ}
 use lib.ListN.{length}
-use Rattle.definition.specs.Tables.{Tables, Row}
 use Rattle.definition.specs.Entry.{Outcome as Defined, refused, replied, Entered}
-use Rattle.definition.specs.Pallet.{pallet}
 use Rattle.logix.specs.declared.entry.Outcome.{Outcome}
 use Rattle.logix.specs.declared.entry.Outcome.the-variants.{Reply, Refused}
-
--- the pallet bench with other tags
-unfoldable pub withTags : (tags : List Row) (tagNames : List ℕ) → Tables
-withTags tags tagNames = record {
-  structures = pallet .structures;
-  members = pallet .members;
-  programs = pallet .programs;
-  tags = tags;
-  others = pallet .others;
-  names = pallet .names;
-  tagNames = tagNames;
-  templates = pallet .templates;
-}
 
 -- a reply's bytes; a refusal has none
 abbrev pub lengthOf : Defined → ℕ

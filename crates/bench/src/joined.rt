@@ -1,5 +1,5 @@
 // Continued reads of `Rows` and continued symbol pages of the pallet bench, joined.
-use crate::pallet;
+use crate::ask;
 use crate::tally;
 use crate::tally::Tally;
 
@@ -79,7 +79,7 @@ fn join(joined: &mut [u8], at: usize, status: u8, data: &[u8]) -> Progress {
 fn exchange(request: &[u8], limit: usize, header: usize, joined: &mut [u8], at: usize) -> Progress {
     let mut memory = pallet::MEMORY;
     let mut space = [0xEEu8; 110];
-    let n = pallet::send(&mut memory, request, limit, &mut space);
+    let n = ask::send(&mut memory, request, limit, &mut space);
     let reply = tally::first(&space, n);
     if reply.len() < header {
         return Progress::Broken;

@@ -1,6 +1,6 @@
 // The lines of document 01's pallet bench, the starred ones too. Its 14 replies at limit 9 are in joined.rt.
-use crate::pallet::line;
-use crate::pallet::storing;
+use crate::ask::line;
+use crate::ask::storing;
 use crate::tally::Tally;
 
 pub fn reads(t: Tally) -> Tally {
@@ -87,7 +87,7 @@ pub fn refusals(t: Tally) -> Tally {
 
 /// OR 01 00 00 00, then AND 0F 00 00 00: `Count` is 0B 00 00 00, and no other byte changes.
 pub fn masked(t: Tally) -> Tally {
-    let mut after = crate::pallet::MEMORY;
+    let mut after = pallet::MEMORY;
     after[0] = 0x0B;
     storing(
         t,

@@ -1,11 +1,11 @@
 // Runs the pallet bench of document 01, the examples of 1756-PM020, and continued reads and pages through `message`, and
 // compares each reply, and tag memory where it is named; before these it shows segment and validity vectors. The starred
 // lines of the bench are one theorem too (proofs/).
+mod ask;
 mod controller;
 mod examples;
 mod joined;
 mod lines;
-mod pallet;
 mod paper;
 mod segments;
 mod sets;

@@ -1,7 +1,6 @@
 // The C entry points; ciplink.h declares them. A slice of bytes passes as a pointer and a length, a slice of rows as a pointer and a count of rows.
 use cip::numbers;
 use logix::entry::Outcome;
-use logix::entry::Refusal;
 use model::Flags;
 use tables::rules::Told;
 use whole::Whole;
@@ -17,7 +16,6 @@ ghost use Rattle.definition.specs.Answer.{answer};
 ghost use Rattle.definition.specs.Entry.{entry};
 ghost use Rattle.model.specs.Tables.{tablesOf, flagsOf};
 ghost use Rattle.services.specs.Answers.{Answers};
-ghost use Rattle.logix.specs.Entering.{numberOf};
 ghost use Rattle.whole.specs.Whole.{wholeRead};
 ghost use Rattle.whole.specs.Lists.{wholeList};
 ghost use Rattle.tables.specs.Rules.{toldOf};
@@ -35,17 +33,6 @@ fn flags_of(word: u32) -> Flags
         instance_ids: word / 2 % 2 == 1,
         aoi_locals_refused: word / 4 % 2 == 1,
         micro800: word / 8 % 2 == 1,
-    }
-}
-
-fn number_of(why: Refusal) -> u64
-    ensures { λ r. ⌜ (r ≡ numberOf why) × (r ≤ 4) ⌝ }
-{
-    match why {
-        Refusal::RequestTooLong => 1,
-        Refusal::LimitTooLarge => 2,
-        Refusal::BufferTooShort => 3,
-        Refusal::TablesInvalid => 4,
     }
 }
 
@@ -234,7 +221,7 @@ pub extern "C" fn ciplink_message(
         buf,
     ) {
         Outcome::Reply(n) => numbers::long_size(n),
-        Outcome::Refused(why) => REFUSED + number_of(why),
+        Outcome::Refused(why) => REFUSED + logix::entry::number_of(why),
     }
 }
 

@@ -3,7 +3,10 @@
 use mathlib.Core.Path.{_≡_, refl}
 use mathlib.Core.List.{List, [], _∷_, _++_, map}
 use Prim.Native.Nat.{ℕ}
-use Rattle.definition.specs.Pallet.{palletMemory, upFrom, Line, count, cellRun, line, rowsFrom, computed, expected}
+use Rattle.definition.specs.Tables.{Tables}
+use Rattle.definition.specs.Entry.{replied}
+use Rattle.definition.specs.Computed.{compute}
+use Rattle.definition.specs.Pallet.{palletTagNames, upFrom, palletFlags, palletMemory, palletStart, Line, count, rows, cellRun, line, rowsFrom, buffer, computed, expected}
 
 -- 0x4D of `Count`, now 14
 abbrev writeCount : List ℕ
@@ -49,8 +52,33 @@ lines =
     ∷ line (0x03 ∷ 0x03 ∷ cellType ++ 0x01 ∷ 0x00 ∷ 0x01 ∷ 0x00 ∷ []) 11 (0x83 ∷ 0x00 ∷ 0x11 ∷ 0x00 ∷ [])
     -- two symbols, IDs alone: the second does not fit
     ∷ line (0x55 ∷ 0x02 ∷ 0x20 ∷ 0x6B ∷ 0x24 ∷ 0x00 ∷ 0x00 ∷ 0x00 ∷ []) 11 (0xD5 ∷ 0x00 ∷ 0x06 ∷ 0x00 ∷ 0x01 ∷ 0x00 ∷ 0x00 ∷ 0x00 ∷ [])
+    -- a plain read's data behind its count is no offset
+    ∷ line (0x4C ∷ 0x03 ∷ rows ++ 0x0A ∷ 0x00 ∷ 0x10 ∷ 0x00 ∷ 0x00 ∷ 0x00 ∷ []) 22 (0xCC ∷ 0x00 ∷ 0x06 ∷ 0x00 ∷ 0xC4 ∷ 0x00 ∷ upFrom 1 16)
+    -- 65,536, past the end
+    ∷ line (0x52 ∷ 0x03 ∷ rows ++ 0x0A ∷ 0x00 ∷ 0x00 ∷ 0x00 ∷ 0x01 ∷ 0x00 ∷ []) 22 (0xD2 ∷ 0x00 ∷ 0xFF ∷ 0x01 ∷ 0x05 ∷ 0x21 ∷ [])
+    -- short data is told behind the path's status: of `Rows`, and of `Rowz`, which is not there
+    ∷ line (0x4C ∷ 0x03 ∷ rows) 22 (0xCC ∷ 0x00 ∷ 0x13 ∷ 0x00 ∷ [])
+    ∷ line (0x4C ∷ 0x03 ∷ 0x91 ∷ 0x04 ∷ 0x52 ∷ 0x6F ∷ 0x77 ∷ 0x7A ∷ []) 22 (0xCC ∷ 0x00 ∷ 0x04 ∷ 0x00 ∷ [])
     ∷ []
 
 pub against-worthless-versions : map computed lines ≡ map expected lines
 unfolding lines computed expected
 against-worthless-versions = refl
+
+-- and behind 0x0F: `Count`, to which access is 3
+unfoldable locked : Tables
+locked = record {
+  structures = [];
+  members = [];
+  programs = [];
+  tags = (0 ∷ 0 ∷ 5 ∷ 1 ∷ 0xC4 ∷ 0 ∷ 0 ∷ 0 ∷ 1 ∷ 3 ∷ 0 ∷ 0 ∷ []) ∷ [];
+  others = [];
+  names = [];
+  tagNames = palletTagNames;
+  templates = [];
+}
+
+access-before-short : compute locked palletFlags palletStart (0x4C ∷ 0x04 ∷ count) 22 buffer .outcome
+    ≡ replied (0xCC ∷ 0x00 ∷ 0x0F ∷ 0x01 ∷ 0x00 ∷ 0x21 ∷ [])
+unfolding compute locked palletFlags palletStart palletMemory upFrom
+access-before-short = refl

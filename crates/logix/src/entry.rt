@@ -10,7 +10,7 @@ ghost use Rattle.definition.specs.Answer.{answer as answerOf};
 ghost use Rattle.definition.specs.Entry.{entry as entryOf};
 ghost use Rattle.model.specs.Tables.{tablesOf, flagsOf};
 ghost use Rattle.services.specs.Answers.{Answers};
-ghost use Rattle.logix.specs.Entering.{Enters};
+ghost use Rattle.logix.specs.Entering.{numberOf, Enters};
 
 /// The largest request and the largest limit.
 const MOST: usize = 65535;
@@ -21,6 +21,18 @@ pub enum Refusal {
     LimitTooLarge,
     BufferTooShort,
     TablesInvalid,
+}
+
+/// Document 01's number of a refusal.
+pub fn number_of(why: Refusal) -> u64
+    ensures { λ r. ⌜ (r ≡ numberOf why) × (r ≤ 4) ⌝ }
+{
+    match why {
+        Refusal::RequestTooLong => 1,
+        Refusal::LimitTooLarge => 2,
+        Refusal::BufferTooShort => 3,
+        Refusal::TablesInvalid => 4,
+    }
 }
 
 pub enum Outcome {

@@ -1,9 +1,9 @@
 // The simulated controller as a program: requests as lines of hex on standard input, replies as hex on standard output.
 // Without a file it serves the pallet bench of document 01, with one the table image in it.
+mod bench;
 mod help;
 mod image;
 mod lines;
-mod pallet;
 mod reply;
 mod say;
 mod session;
@@ -80,7 +80,7 @@ fn main() {
         return;
     }
     if o.file == 0 {
-        pallet::serve(o);
+        bench::serve(o);
         return;
     }
     let mut name = io::buffer();

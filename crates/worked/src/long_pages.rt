@@ -1,16 +1,5 @@
 // P2: pages and attributes of symbols with long names.
-use crate::hex;
-use libc::STDOUT_FILENO;
-use logix::entry::Outcome;
-use model::Flags;
-use wording::out;
-
-const FLAGS: Flags = Flags {
-    multi_service: true,
-    instance_ids: true,
-    aoi_locals_refused: false,
-    micro800: false,
-};
+use crate::asked;
 
 /// A page of all symbols of the controller from ID 0 on, with their names.
 const FROM_START: [u8; 10] = [0x55, 0x02, 0x20, 0x6B, 0x24, 0x00, 0x01, 0x00, 0x01, 0x00];
@@ -53,22 +42,13 @@ fn send(
         names,
         &tag_names,
         &templates,
-        FLAGS,
+        pallet::FLAGS,
         &mut memory,
         request,
         limit,
         &mut buf,
     );
-    out::text(STDOUT_FILENO, b"send");
-    hex::bytes(request, request.len());
-    out::text(STDOUT_FILENO, b"\nlimit ");
-    out::number(STDOUT_FILENO, limit);
-    out::text(STDOUT_FILENO, b":");
-    match told {
-        Outcome::Reply(n) => hex::bytes(&buf, n),
-        Outcome::Refused(_) => out::text(STDOUT_FILENO, b" refused"),
-    }
-    out::text(STDOUT_FILENO, b"\n");
+    asked::show(request, limit, told, &buf);
 }
 
 /// A program of 36 letters and its other symbol, ID 9; no tag.

@@ -1,7 +1,9 @@
 // The worked examples of document 02's requests, a line each: what is asked, and what is answered.
+mod asked;
 mod hex;
 mod long_names;
 mod long_pages;
+mod one_read;
 mod path_steps;
 
 fn main() {
@@ -13,4 +15,8 @@ fn main() {
     path_steps::refused();
     path_steps::symbols();
     path_steps::ports();
+    one_read::fields();
+    one_read::continued();
+    one_read::replaced();
+    one_read::again();
 }

@@ -1,7 +1,7 @@
 -- Each table is an array, lent whole, and `session::open` requires nothing of it.
 use borrow.Author.Needs.{needs}
-use Rattle.simulator.proofs.pallet.serve.Statement.{statement}
-use Rattle.simulator.proofs.pallet.serve.Tie as tie
+use Rattle.simulator.proofs.bench.serve.Statement.{statement}
+use Rattle.simulator.proofs.bench.serve.Tie as tie
 
 pub serve-spec : {M : Type 1} → statement M
 serve-spec =
