@@ -1,6 +1,6 @@
 -- What the definition makes of the exact bytes of a continued read and of a page's request, and of any data behind them.
 -- Assumes nothing.
-use mathlib.Core.Path.{_≡_, refl}
+use mathlib.Core.Path.{_≡_, refl, _∙_}
 use mathlib.Core.Bool.{Bool, true, false}
 use mathlib.Core.List.{List, [], _∷_, _++_, append-assoc}
 use mathlib.Core.Option.{Option, none, some}
@@ -24,7 +24,7 @@ use Rattle.definition.specs.Read.{readFields}
 use Rattle.definition.specs.Symbols.{isListed}
 use Rattle.definition.specs.Answer.{byService, plain, answer}
 use Rattle.definition.proofs.OneRead.{past-objects}
-use Rattle.continued.specs.Point3.{Memory, Asks, AsksPage, Encodes, readRequest, openRequest, numberBytes, pageRequest, Starts-at}
+use Rattle.continued.specs.Point3.{Memory, Asks, Fragmented-asks, Plain-asks, AsksPage, Encodes, readRequest, openRequest, numberBytes, pageRequest, Starts-at}
 
 -- ---- numbers and their bytes
 
@@ -91,32 +91,31 @@ service-first message service path body e =
 
 -- ---- exact bytes, with any data behind them, are a continued read and a continued page
 
+pub fragmented-asks : Fragmented-asks
+unfolding readFields
+fragmented-asks path message body e long = record { service = 0x52; body = body; reads = refl; is = e; fields-are = rw (le-ltb (length body) 6 long) }
+
+pub plain-asks : Plain-asks
+unfolding readFields
+plain-asks path message body e long = record { service = 0x4C; body = body; reads = refl; is = e; fields-are = rw (le-ltb (length body) 2 long) }
+
 pub exact-asks : (path : List ℕ) (decoded : List Segment) (elements offset : ℕ) (more : List ℕ) → Encodes path decoded → elements < 65536 → offset < 4294967296
     → Asks decoded elements (readRequest path elements offset ++ more) offset
-unfolding readRequest readFields
+unfolding readRequest
 exact-asks path decoded elements offset more e few low =
-    let long : 6 ≤ length (le16 elements ++ (le32 offset ++ more)) = omega arith in
-    record {
-      service = 0x52;
-      body = le16 elements ++ (le32 offset ++ more);
-      reads = refl;
-      is = rw (append-assoc (path ++ le16 elements) (le32 offset) more, append-assoc path (le16 elements) (le32 offset ++ more))
-          (decoded-request 0x52 path decoded (le16 elements ++ (le32 offset ++ more)) e);
-      fields-are = rw (le-ltb, u16-le16 elements (le32 offset ++ more) few, u32-le32 offset more low);
-    }
+    let body = le16 elements ++ (le32 offset ++ more) in
+    let same = append-assoc (path ++ le16 elements) (le32 offset) more ∙ append-assoc path (le16 elements) (le32 offset ++ more) in
+    let is : requestOf (readRequest path elements offset ++ more) ≡ request 0x52 decoded body = rw same (decoded-request 0x52 path decoded body e) in
+    rw (u16-le16 elements (le32 offset ++ more) few, u32-le32 offset more low) at (fragmented-asks decoded _ body is (omega arith))
 
 pub exact-opens : (path : List ℕ) (decoded : List Segment) (elements : ℕ) (more : List ℕ) → Encodes path decoded → elements < 65536
     → Asks decoded elements (openRequest path elements ++ more) 0
-unfolding openRequest readFields
+unfolding openRequest
 exact-opens path decoded elements more e few =
-    let long : 2 ≤ length (le16 elements ++ more) = omega arith in
-    record {
-      service = 0x4C;
-      body = le16 elements ++ more;
-      reads = refl;
-      is = rw (append-assoc path (le16 elements) more) (decoded-request 0x4C path decoded (le16 elements ++ more) e);
-      fields-are = rw (le-ltb, u16-le16 elements more few);
-    }
+    let body = le16 elements ++ more in
+    let same = append-assoc path (le16 elements) more in
+    let is : requestOf (openRequest path elements ++ more) ≡ request 0x4C decoded body = rw same (decoded-request 0x4C path decoded body e) in
+    rw (u16-le16 elements more few) at (plain-asks decoded _ body is (omega arith))
 
 pub exact-page : (t : Tables) (scope : ℕ) (attributes path : List ℕ) (id : ℕ) (more : List ℕ) → length attributes < 65536 → every isListed attributes ≡ true
     → Starts-at t scope id path → AsksPage t scope attributes (pageRequest path attributes ++ more) id

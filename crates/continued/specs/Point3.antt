@@ -6,7 +6,7 @@ use mathlib.Core.Option.{some}
 use Prim.Native.Nat.{ℕ, _*_, _/_, _≤_, _<_}
 use lib.ListN.{length}
 use Rattle.laws.specs.Tests.{every}
-use Rattle.definition.specs.Bytes.{le16, le32, counted}
+use Rattle.definition.specs.Bytes.{u16At, u32At, le16, le32, counted}
 use Rattle.definition.specs.Segment.{Segment, segments}
 use Rattle.definition.specs.Request.{request, requestOf, isTagPath}
 use Rattle.definition.specs.Tables.{Tables, Flags}
@@ -51,13 +51,25 @@ Between (changed left) m = length left ≡ length m
 -- ---- continued reads
 
 -- a continued read in any bytes: what the definition decodes as a read, 0x52 or 0x4C, of these segments with this element count and this offset, whatever
--- follows the fields. A 0x4C's offset is 0 (`Plain-at-0`): so it is one of ours exactly where nothing was received yet, and opens the read
+-- follows the fields
 pub record Asks (path : List Segment) (elements : ℕ) (message : List ℕ) (offset : ℕ) : Type 0 where
   pub service : ℕ
   pub body : List ℕ
   pub reads : isRead service ≡ true
   pub is : requestOf message ≡ request service path body
   pub fields-are : readFields service body ≡ fields elements offset
+
+-- a 0x52 is one at the offset that it sends
+abbrev pub Fragmented-asks : Type 0
+Fragmented-asks =
+    (path : List Segment) (message body : List ℕ) → requestOf message ≡ request 0x52 path body → 6 ≤ length body
+    → Asks path (u16At body 0) message (u32At body 2)
+
+-- a 0x4C is one at offset 0 and at no other: so it stands where nothing was received yet, and opens the read
+abbrev pub Plain-asks : Type 0
+Plain-asks =
+    (path : List Segment) (message body : List ℕ) → requestOf message ≡ request 0x4C path body → 2 ≤ length body
+    → Asks path (u16At body 0) message 0
 
 abbrev pub Plain-at-0 : Type 0
 Plain-at-0 =

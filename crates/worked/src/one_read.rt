@@ -57,10 +57,11 @@ pub fn fields() {
 }
 
 fn answered(answers: usize, received: usize) {
+    out::text(STDOUT_FILENO, b"answers ");
     out::number(STDOUT_FILENO, answers);
-    out::text(STDOUT_FILENO, b" answers, ");
+    out::text(STDOUT_FILENO, b", bytes ");
     out::number(STDOUT_FILENO, received);
-    out::text(STDOUT_FILENO, b" bytes\n");
+    out::text(STDOUT_FILENO, b"\n");
 }
 
 /// A continued read that a 0x4C opens: at one limit, then 0x52 at the bytes received at another, until all are there or nothing comes.
