@@ -15,7 +15,7 @@ unfolding readFields
 returns-2 c =
     let e = c .wide16 .ensures ∙ c .before .u16-at .ensures in
     let o = c .before .before .wide .ensures ∙ c .before .before .before .u32-at .ensures in
-    rw (e, o) (search chain)
+    search chain
 
 returns-3 : tie.Need-returns-3
 unfolding readFields
@@ -23,7 +23,7 @@ returns-3 c = search chain
 
 returns-4 : tie.Need-returns-4
 unfolding readFields
-returns-4 c = let e = c .wide162 .ensures ∙ c .before .u16-at2 .ensures in rw e (search chain)
+returns-4 c = let e = c .wide162 .ensures ∙ c .before .u16-at2 .ensures in search chain
 
 pub read-fields-spec : {M : Type 1} → statement M
 read-fields-spec =
