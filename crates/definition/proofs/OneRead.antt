@@ -7,7 +7,6 @@ use Prim.Native.Nat.{ℕ}
 use lib.Dec.{ltb, leb, eqb}
 use lib.ListN.{length, drop}
 use borrow.Author.Tests.{eqb-true}
-use Rattle.laws.specs.Pick.{pick, both}
 use Rattle.laws.proofs.Chain.{by-test, clash}
 use Rattle.laws.proofs.Tests.{both-none, either-true}
 use Rattle.definition.specs.Reply.{Status, answered, reply, fail}

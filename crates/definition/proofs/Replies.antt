@@ -9,7 +9,7 @@ use native.Mathlib.Omega.{arith}
 use lib.Dec.{ltb, leb, eqb}
 use lib.ListN.{length, take, drop, getD, length-append, length-take}
 use borrow.Author.Tests.{leb-true}
-use Rattle.laws.specs.Pick.{pick, both, either, isEmpty, isSome}
+use Rattle.laws.specs.Pick.{both, either, isEmpty, isSome}
 use Rattle.laws.specs.Tests.{every, some-of}
 use Rattle.laws.proofs.Chain.{by-test, pick-all}
 use Rattle.definition.specs.Bytes.{part, u16At, u32At, counted}

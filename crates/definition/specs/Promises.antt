@@ -20,7 +20,7 @@ use Rattle.definition.specs.Lookup.{tagAt}
 use Rattle.definition.specs.Valid.{encoded, t1, isName, isOtherName, tagNamesDiffer, otherNamesDiffer, programNamesDiffer, t3, t4, t5, t6, valid, tagEnd}
 use Rattle.definition.specs.Resolve.{Target, found}
 use Rattle.definition.specs.Access.{tagTarget}
-use Rattle.definition.specs.Read.{Selection, granted, ask, askTarget, send, readAt, ReadFields, fields, readFields, readReply}
+use Rattle.definition.specs.Read.{Selection, granted, ask, askTarget, send, readAt, fields, readFields, readReply}
 use Rattle.definition.specs.Masked.{masked}
 use Rattle.definition.specs.Envelope.{envelopeService, partAnswer}
 use Rattle.definition.specs.Answer.{isRead, isWrite, partDispatch, answer}

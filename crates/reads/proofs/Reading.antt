@@ -8,7 +8,7 @@ use Prim.Native.Nat.{ℕ, _+_, _-_, _*_, _≤_, _<_}
 use native.Mathlib.Omega.{arith}
 use lib.Dec.{ltb, eqb}
 use lib.ListN.{length, getD, drop, length-append, length-drop}
-use borrow.Author.Tests.{eq-eqb, ne-eqb, lt-leb, lt-ltb, le-ltb, ltb-false, eqb-true}
+use borrow.Author.Tests.{eq-eqb, ne-eqb, lt-leb, ltb-false, eqb-true}
 use Rattle.laws.specs.Put.{put, zeroed}
 use Rattle.laws.proofs.Chain.{by-test, pick-all, clash}
 use Rattle.laws.proofs.Put.{put-then, length-part, part-of-part}
