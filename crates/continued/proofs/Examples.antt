@@ -235,7 +235,7 @@ replaced-delivered : ReadsDeliver pallet palletFlags (granted-rows .selected) pa
 unfolding computed
 replaced-delivered = continued-reads pallet palletFlags rowsPath 10 granted-rows palletStart replaced refl fair-replaced
 
--- the other lists of document 02's page: the bytes that come, the newest first, and the bound at the smallest answered limit
+-- the other lists among document 02's examples: the bytes that come, the newest first, and the bound at the smallest answered limit
 abbrev comes : List (Turn Event) → List ℕ × ℕ
 comes turns = let l = answers pallet 2 turns in (sizes l, replyCount 40 (space 2 (leastLimit l)))
 

@@ -32,7 +32,7 @@ use Rattle.definition.proofs.Selected.{granted-some}
 use Rattle.definition.proofs.Stored.{memory-keeps-its-length}
 use Rattle.continued.specs.Reads.{Sent, Turn, Replied}
 use Rattle.continued.specs.Point3.{Memory, respond, hears, leaves, Event, message, changed, steps, Between, Asks, Plain-at-0, Reads, FairReads, ReadsDeliver, Continued-reads, AsksPage, Pages, FairList, PagesDeliver, Continued-pages, readRequest, Readable, ExactReads, Exact-reads, pageRequest, ExactPages, Exact-pages}
-use Rattle.continued.proofs.Talk.{Sends, reads-deliver}
+use Rattle.continued.proofs.Talk.{SendsFragment, reads-deliver}
 use Rattle.continued.proofs.Listing.{pages-deliver}
 use Rattle.continued.proofs.Requests.{service-first, exact-asks, exact-page}
 
@@ -92,7 +92,7 @@ module _ (t : Tables) (f : Flags) (path : List Segment) (elements : ℕ) (g : Gr
 
   read-law : (x : Sent) (m : Memory) (offset : ℕ) → Asks path elements (x .request) offset → offset < length (selectedBytes (g .selected) m)
       → Replied (hears t f x m)
-      → Sends (respond t f x m .outcome) (g .selected .header) (drop offset (selectedBytes (g .selected) m)) (x .limit)
+      → SendsFragment (respond t f x m .outcome) (g .selected .header) (drop offset (selectedBytes (g .selected) m)) (x .limit)
       × (respond t f x m .memory ≡ m)
   read-law x m offset q l p = rw (entered t f x m .0 p, answer-asked m (x .request) (x .limit) offset q l) ((q .service, refl), refl)
 

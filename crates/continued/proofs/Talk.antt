@@ -15,8 +15,8 @@ use Rattle.continued.specs.Reads.{Sent, Turn, ours, other, Answered, joi
 use Rattle.continued.proofs.Chain.{Chain, start, next, End, all, some, ends, delivered}
 
 -- a reply that sends of what is due as much as fits the limit, whatever the request's service
-abbrev pub Sends : Outcome → (header due : List ℕ) (limit : ℕ) → Type 0
-Sends o header due limit = (service : ℕ) × (o ≡ replied (fragmentReply service header due limit))
+abbrev pub SendsFragment : Outcome → (header due : List ℕ) (limit : ℕ) → Type 0
+SendsFragment o header due limit = (service : ℕ) × (o ≡ replied (fragmentReply service header due limit))
 
 module _ (S header : List ℕ) where
   more-due : 0 < length S → (t : List Answered) → Chain S (length header) t → lastStatus t ≢ 0 → length (joined t) < length S
@@ -29,7 +29,7 @@ module _ (S header : List ℕ) where
   -- a read turn: the state stays as it was, and what is heard is a fragment more or nothing
   turn : {State : Type 0} (limit : ℕ) (o : Outcome) (m left : State) (t : List Answered) → Chain S (length header) t → lastStatus t ≢ 0
       → (Replied o → 5 + length header ≤ limit)
-      → (Replied o → Sends o header (drop (length (joined t)) S) limit × (left ≡ m))
+      → (Replied o → SendsFragment o header (drop (length (joined t)) S) limit × (left ≡ m))
       → ((Replied o → ⊥) → left ≡ m)
       → (left ≡ m) × Chain S (length header) (heard (length header) limit o t)
   unfolding fragmentReply reply
@@ -53,7 +53,7 @@ module _ {State Event : Type 0} (hear : Sent → State → Outcome) (after : Sen
     (keeps : (s : Sent) (m : State) → Fits m → Fits (after s m))
     (stays : (e : Event) (m : State) → between e m → Fits m → Fits (step e m))
     (read-law : (s : Sent) (m : State) (offset : ℕ) → Fits m → reads m s offset → offset < length (selected m) → Replied (hear s m)
-    → Sends (hear s m) header (drop offset (selected m)) (s .limit) × (after s m ≡ m))
+    → SendsFragment (hear s m) header (drop offset (selected m)) (s .limit) × (after s m ≡ m))
     (refusal-law : (s : Sent) (m : State) → (Replied (hear s m) → ⊥) → after s m ≡ m) where
   chain : (S : List ℕ) → 0 < length S → (turns : List (Turn Event)) (m : State) (t : List Answered) → Fits m → selected m ≡ S → Chain S (length header) t
       → Fair hear after step reads selected between (length header) m t turns → Chain S (length header) (talk hear after step (length header) m t turns)

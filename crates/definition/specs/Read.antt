@@ -63,12 +63,13 @@ abbrev pub send : (service : ℕ) → Asked → (memory : List ℕ) (offset limi
 send service (granted s) memory offset limit = sendFrom service (s .header) (selectedBytes s memory) offset limit
 send service (notGranted status) memory offset limit = fail service status
 
--- ---- one read: of so many elements of a target, from an offset on; the service goes into the reply's first byte and decides nothing [02]
+-- ---- one read: so many elements of a target, from an offset on
 
+-- the service goes into the reply's first byte and decides nothing else [P3]
 unfoldable pub readAt : (structures : List Row) (memory : List ℕ) (service : ℕ) → Target → (elements offset limit : ℕ) → List ℕ
 readAt structures memory service g elements offset limit = send service (ask structures g elements) memory offset limit
 
--- ---- whoever decodes the request says elements and offset, or that data is missing
+-- ---- the fields, by which whoever decodes the request says elements and offset; or data is missing
 
 pub data ReadFields : Type 0 where
   fields : (elements offset : ℕ) → ReadFields

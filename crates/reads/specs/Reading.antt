@@ -4,16 +4,16 @@ use lib.Dec.{ltb, eqb}
 use Rattle.laws.specs.Pick.{pick}
 use Rattle.definition.specs.Tables.{noBit}
 use Rattle.definition.specs.Types.{isStructure}
-use Rattle.definition.specs.Read.{Selection, Asked, granted, notGranted, ReadFields, fields, short}
+use Rattle.definition.specs.Read.{Selection, Asked, granted, notGranted, ReadFields as Defined, fields, short}
 use Rattle.cip.specs.Statuses.{statusOf}
 use Rattle.cip.specs.declared.Status.the-variants.{NoElements, BeyondEnd}
-use Rattle.reads.specs.declared.Fields.{Fields}
-use Rattle.reads.specs.declared.Fields.the-variants.{Of, Short}
+use Rattle.reads.specs.declared.ReadFields.{ReadFields}
+use Rattle.reads.specs.declared.ReadFields.the-variants.{Of, Short}
 use Rattle.reads.specs.declared.Grant.{Grant}
 use Rattle.reads.specs.declared.Grant.the-variants.{Granted, Refused}
 
 -- the fields that the code's answer stands for
-abbrev pub fieldsAs : Fields → ReadFields
+abbrev pub fieldsAs : ReadFields → Defined
 fieldsAs (Of elements offset) = fields elements offset
 fieldsAs Short = short
 

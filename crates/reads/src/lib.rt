@@ -24,7 +24,7 @@ ghost use Rattle.model.specs.Tables.{targetOf, Aimed};
 ghost use Rattle.reads.specs.Reading.{fieldsAs, grantOf, headerSize};
 
 /// What a read is asked for: elements and offset, or data is missing.
-pub enum Fields {
+pub enum ReadFields {
     Of(usize, usize),
     Short,
 }
@@ -188,20 +188,20 @@ fn send_selected<'a>(
 
 /// What a read's data says: 0x4C brings an element count and has offset 0, 0x52 an offset behind the count. What
 /// follows is ignored.
-pub fn read_fields(service: u8, body: &[u8]) -> Fields
+pub fn read_fields(service: u8, body: &[u8]) -> ReadFields
     ensures { λ r. ⌜ fieldsAs r ≡ readFields service (now (body .entry)) ⌝ }
 {
     if service == READ_FRAGMENTED {
         if body.len() < 6 {
-            return Fields::Short;
+            return ReadFields::Short;
         }
         let offset = cip::numbers::wide(cip::u32_at(body, 2));
-        return Fields::Of(cip::numbers::wide16(cip::u16_at(body, 0)), offset);
+        return ReadFields::Of(cip::numbers::wide16(cip::u16_at(body, 0)), offset);
     }
     if body.len() < 2 {
-        return Fields::Short;
+        return ReadFields::Short;
     }
-    Fields::Of(cip::numbers::wide16(cip::u16_at(body, 0)), 0)
+    ReadFields::Of(cip::numbers::wide16(cip::u16_at(body, 0)), 0)
 }
 
 /// One read of a resolved target, whoever decoded it; returns the reply's length.

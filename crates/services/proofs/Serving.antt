@@ -27,8 +27,8 @@ use Rattle.resolve.specs.declared.Resolved.{Resolved}
 use Rattle.resolve.specs.declared.Resolved.the-variants.{Found, Turned}
 use Rattle.resolve.proofs.Answering.{found-aimed}
 use Rattle.reads.specs.Reading.{fieldsAs}
-use Rattle.reads.specs.declared.Fields.{Fields}
-use Rattle.reads.specs.declared.Fields.the-variants.{Of, Short}
+use Rattle.reads.specs.declared.ReadFields.{ReadFields}
+use Rattle.reads.specs.declared.ReadFields.the-variants.{Of, Short}
 use Rattle.reads.proofs.Lengths.{read-any-lengths}
 use Rattle.writes.specs.Storing.{Stores}
 use Rattle.writes.proofs.Lengths.{write-any-lengths, masked-any-lengths}
@@ -41,7 +41,7 @@ pub laid-answers : (limit : ℕ) (bytes old : List ℕ) (r : ℕ) (new memory : 
 laid-answers limit bytes old r new memory h = record { length-is = h .length-is; buffer-is = h .buffer-is; memory-is = refl }
 
 -- a read by its fields, as the code has them
-module _ (structures : List Row) (memory : List ℕ) (service : ℕ) (g : Target) (body : List ℕ) (limit : ℕ) (old : List ℕ) (r : ℕ) (new : List ℕ) (w : Fields)
+module _ (structures : List Row) (memory : List ℕ) (service : ℕ) (g : Target) (body : List ℕ) (limit : ℕ) (old : List ℕ) (r : ℕ) (new : List ℕ) (w : ReadFields)
     (decoded : fieldsAs w ≡ readFields service body) where
   pub read-of : (elements offset : ℕ) → w ≡ Of elements offset
       → Laid limit (readAt structures memory service (targetOf g []) elements offset limit) old r new

@@ -7,7 +7,7 @@ use cip::codes::WRITE_FRAGMENTED;
 use cip::codes::WRITE_MASKED;
 use model::Flags;
 use model::Target;
-use reads::Fields;
+use reads::ReadFields;
 use resolve::Resolved;
 ghost use mathlib.Core.Path.{_≡_};
 ghost use mathlib.Core.Bool.{true};
@@ -71,7 +71,7 @@ fn serve_read<'a>(
         (now (buf .entry)) r (now (buf .exit)) ⌝ }
 {
     match reads::read_fields(service, body) {
-        Fields::Of(elements, offset) => {
+        ReadFields::Of(elements, offset) => {
             return reads::read(
                 structures,
                 templates,
@@ -84,7 +84,7 @@ fn serve_read<'a>(
                 buf,
             );
         }
-        Fields::Short => {
+        ReadFields::Short => {
             return cip::fail(buf, limit, service, Status::TooShort);
         }
     }
