@@ -1,5 +1,5 @@
-/* Reads the array `Rows` of the pallet bench by a continued read, and again by ciplink_t_read_whole, lists the symbols, and prints
- * both. examples/build makes it; by hand, from the root of the repository:
+/* Reads the array `Rows` of the pallet bench by a continued read, and again by ciplink_t_read_whole, lists the symbols, sends two
+ * clicks on `Count` as one masked write, and prints it all. examples/build makes it; by hand, from the root of the repository:
  *   rt staticlib ciplink && cc -I crates/ciplink examples/pallet.c target/staticlib/libciplink.a -o target/pallet && target/pallet */
 #include <stdio.h>
 #include <string.h>
@@ -33,6 +33,15 @@ static uint32_t number(const uint8_t *bytes) {
 static void print_symbols(const uint8_t *entries, size_t length) {
   for (size_t at = 0; at + 6 <= length; at += 6 + entries[at + 4])
     printf("symbol %u %.*s\n", (unsigned)number(entries + at), entries[at + 4], (const char *)entries + at + 6);
+}
+
+/* two masked writes to Count, bit 0 on with the bits from 4 on off, then bits 4 to 7 on, sent as one */
+static int click(void) {
+  uint8_t request[] = {0x4E, 4, 0x91, 5, 'C', 'o', 'u', 'n', 't', 0, 4, 0, 0x01, 0, 0, 0, 0x0F, 0, 0, 0}, reply[8];
+  const uint8_t next_ors[] = {0xF0, 0, 0, 0}, next_ands[] = {0xFF, 0, 0, 0};
+  if (!ciplink_join_masks(request + 12, 4, request + 16, 4, next_ors, sizeof next_ors, next_ands, sizeof next_ands)) return 0;
+  uint64_t length = ciplink_t_message(&bench, request, sizeof request, sizeof reply, reply, sizeof reply);
+  return length < CIPLINK_REFUSED && reply[2] == 0;
 }
 
 int main(void) {
@@ -89,5 +98,12 @@ int main(void) {
     return 1;
   }
   print_symbols(symbols, (size_t)bytes);
+
+  printf("Count = %u\n", (unsigned)number(memory));
+  if (!click()) {
+    printf("the clicks were not taken\n");
+    return 1;
+  }
+  printf("Count = %u after two clicks in one\n", (unsigned)number(memory));
   return 0;
 }

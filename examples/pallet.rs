@@ -1,5 +1,5 @@
 // The same host as examples/pallet.c, in Rust, with no crate: reads the array `Rows` of the pallet bench by a continued read, and
-// again by ciplink_read_whole, lists the symbols, and prints both. examples/build makes it; by hand, from the root of the repository:
+// again by ciplink_read_whole, lists the symbols, sends two clicks on `Count` as one masked write, and prints it all. examples/build makes it; by hand, from the root of the repository:
 //   rt staticlib ciplink && rustc -O examples/pallet.rs -L target/staticlib -l static=ciplink -o target/pallet-rs && target/pallet-rs
 
 /// A row of 32-bit words, as in ciplink.h.
@@ -29,6 +29,19 @@ entries! {
     fn ciplink_list_whole(flags: u32, memory: *mut u8, memory_length: usize, program: *const u8, program_length: usize,
         attributes: *const u8, attributes_length: usize, limit: usize, reply: *mut u8, reply_length: usize, out: *mut u8,
         out_length: usize) -> u64;
+}
+
+extern "C" {
+    fn ciplink_join_masks(ors: *mut u8, ors_length: usize, ands: *mut u8, ands_length: usize, next_ors: *const u8, next_ors_length: usize,
+        next_ands: *const u8, next_ands_length: usize) -> u32;
+}
+
+/// Joins the masks of a masked write with those of the next one, in the place of the first; false where the four lengths differ.
+fn join_masks(ors: &mut [u8], ands: &mut [u8], next_ors: &[u8], next_ands: &[u8]) -> bool {
+    unsafe {
+        ciplink_join_masks(ors.as_mut_ptr(), ors.len(), ands.as_mut_ptr(), ands.len(), next_ors.as_ptr(), next_ors.len(),
+            next_ands.as_ptr(), next_ands.len()) == 1
+    }
 }
 
 const REFUSED: u64 = 0x1_0000_0000;
@@ -172,6 +185,18 @@ fn run() -> Result<(), String> {
         println!("symbol {} {}", number(left), String::from_utf8_lossy(&left[6..end]));
         left = &left[end..];
     }
+
+    // two masked writes to Count, bit 0 on with the bits from 4 on off, then bits 4 to 7 on, sent as one
+    println!("Count = {}", number(&memory));
+    let (mut ors, mut ands) = ([0x01, 0, 0, 0], [0x0F, 0, 0, 0]);
+    if !join_masks(&mut ors, &mut ands, &[0xF0, 0, 0, 0], &[0xFF, 0, 0, 0]) {
+        return Err("the clicks were not taken".into());
+    }
+    let request = [&b"\x4E\x04\x91\x05Count\x00\x04\x00"[..], &ors, &ands].concat();
+    if bench.message(&mut memory, &request, limit, &mut reply) >= REFUSED || reply[2] != 0 {
+        return Err("the clicks were not taken".into());
+    }
+    println!("Count = {} after two clicks in one", number(&memory));
     Ok(())
 }
 

@@ -5,7 +5,7 @@
  *
  * The stack that a call takes, in KiB: the most that oracle/stack measured with the largest tables, and a sixth more, since what
  * is measured is no bound for every input:
- *   ciplink_answer                                                          4
+ *   ciplink_answer, ciplink_join_masks                                      4
  *   ciplink_valid, ciplink_breach, ciplink_message, ciplink_read_whole     56
  *   ciplink_list_whole (a page that it measures stands on its stack)      128
  *
@@ -18,8 +18,8 @@
 #include <stddef.h>
 #include <stdint.h>
 
-#define CIPLINK_VERSION "1.1.0"
-#define CIPLINK_VERSION_NUMBER 0x010100 /* major, minor and patch, a byte each */
+#define CIPLINK_VERSION "1.2.0"
+#define CIPLINK_VERSION_NUMBER 0x010200 /* major, minor and patch, a byte each */
 
 #ifdef __cplusplus
 extern "C" {
@@ -225,6 +225,20 @@ uint64_t ciplink_read_whole(CIPLINK_TABLES, uint32_t flags, uint8_t *memory, siz
 uint64_t ciplink_list_whole(CIPLINK_TABLES, uint32_t flags, uint8_t *memory, size_t memory_length, const uint8_t *program,
                             size_t program_length, const uint8_t *attributes, size_t attributes_length, size_t limit,
                             uint8_t *reply, size_t reply_length, uint8_t *out, size_t out_length);
+
+/* Masked writes (0x4E) in a row, joined into one. `ors` and `ands` are the masks of the first, `next_ors` and `next_ands` those of
+ * the next one to the same target, as the requests carry them. Afterwards `ors` and `ands` are the masks of a single masked write
+ * that leaves what the two leave, for every tag memory: OR masks (ors | next_ors), AND masks ((ands | next_ors) & next_ands).
+ * Returns 1; or 0 where the four lengths are not equal, and nothing is written then. A row is joined from its first click on, one
+ * click at a call.
+ *
+ * One target is the same first byte of tag memory and the same size, by whatever path: by name or by instance ID, `Rows` or
+ * `Rows[0]`, in any case. The single one is accepted where the two are. Nothing between the two may change tag memory or the
+ * tables; a read that stood between them may see other bytes than before. Zeros with all ones (OR 00.., AND FF..) change nothing,
+ * and joined with another pair, before it or behind it, they give that pair. `ors` and `ands` overlap nothing else that is passed,
+ * nor each other. */
+uint32_t ciplink_join_masks(uint8_t *ors, size_t ors_length, uint8_t *ands, size_t ands_length, const uint8_t *next_ors,
+                            size_t next_ors_length, const uint8_t *next_ands, size_t next_ands_length);
 
 /* ---- one pointer for all tables
  *

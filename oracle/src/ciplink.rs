@@ -41,6 +41,19 @@ entries! {
     ciplink_breach(memory: *const u8, memory_length: usize, told: *mut [u64; 5]) -> u64;
 }
 
+unsafe extern "C" {
+    fn ciplink_join_masks(
+        ors: *mut u8,
+        ors_length: usize,
+        ands: *mut u8,
+        ands_length: usize,
+        next_ors: *const u8,
+        next_ors_length: usize,
+        next_ands: *const u8,
+        next_ands_length: usize,
+    ) -> u32;
+}
+
 /// Calls a function with the eight tables and what follows them.
 macro_rules! call {
     ($function:ident, $t:expr, $($rest:expr),*) => {
@@ -105,4 +118,12 @@ pub fn valid(t: &Tables, memory: &[u8]) -> u32 {
 /// The number of the rule that the tables break first, 0 if they are valid; the numbers of `ciplink_told` are written.
 pub fn breach(t: &Tables, memory: &[u8], told: &mut [u64; 5]) -> u64 {
     unsafe { call!(ciplink_breach, t, memory.as_ptr(), memory.len(), told) }
+}
+
+/// Joins the masks of a masked write with those of the next one, in place of the first; 0 where the four lengths are not
+/// equal, else 1.
+pub fn join_masks(ors: &mut [u8], ands: &mut [u8], next_ors: &[u8], next_ands: &[u8]) -> u32 {
+    let (o, a, p, b) = (ors.len(), ands.len(), next_ors.len(), next_ands.len());
+    let (ors, ands) = (ors.as_mut_ptr(), ands.as_mut_ptr());
+    unsafe { ciplink_join_masks(ors, o, ands, a, next_ors.as_ptr(), p, next_ands.as_ptr(), b) }
 }

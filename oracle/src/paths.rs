@@ -44,8 +44,13 @@ impl<'a> Talk<'a> {
             let at = self.rng.below(name.len() as u32) as usize;
             name[at] ^= 0x20;
         }
+        self.spelled(&name)
+    }
+
+    /// A symbol of exactly this name.
+    pub fn spelled(&mut self, name: &[u8]) -> Vec<u8> {
         let mut out = vec![0x91, name.len() as u8];
-        out.extend(&name);
+        out.extend(name);
         if name.len() % 2 == 1 {
             out.push(if self.rng.chance(70) { 0 } else { self.rng.byte() });
         }

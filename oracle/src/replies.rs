@@ -3,6 +3,7 @@
 //!
 //!   messages SEED SETS MESSAGES     MESSAGES messages to each of SETS table sets; exit status 1 if an answer differs
 //!   messages breaches SEED SETS     SETS table sets, each broken in one to three places: only what is told of them
+//!   messages joined SEED SETS ROWS  ROWS rows of masked writes to each of SETS table sets, and each row as a single one
 
 // what only the other drivers use of the generators
 #![allow(dead_code)]
@@ -12,22 +13,25 @@ mod breaches;
 mod broken;
 mod cases;
 mod ciplink;
+mod clicks;
 mod findings;
+mod joined;
 mod lent;
+mod masks;
 mod messages;
 mod paths;
+mod port;
 mod rng;
 mod tables;
 mod tally;
+mod targets;
 mod valid;
 
 use breaches::{Breaches, Judged};
 use broken::Kind;
 use cases::{Case, Expected, Run, Wanted, run_broken, sound, talk};
-use ciplink::{Asked, REFUSED};
 use ciplink_sim::rows::Flags;
-use findings::hex;
-use lent::{Lent, pattern};
+use port::{Port, show_tables};
 use rng::Rng;
 use tables::{LARGE, MEDIUM, SMALL, Set, Size};
 use tally::Tally;
@@ -46,9 +50,7 @@ struct Origin<'a> {
 #[derive(Default)]
 struct Comparison {
     tally: Tally,
-    /// Messages that went through `ciplink_message` and through `ciplink_answer`.
-    judged: u64,
-    answered: u64,
+    port: Port,
     /// What was told of the table sets.
     breaches: Breaches,
     /// Messages by the flags' bits.
@@ -60,9 +62,6 @@ struct Comparison {
     most_tags: usize,
     longest: usize,
     differ: u64,
-    memory: Lent,
-    buffer: Lent,
-    expected: Vec<u8>,
 }
 
 /// The size of a seed's tables; of how many messages one goes through `ciplink_message`, which judges the tables anew; and
@@ -120,51 +119,28 @@ impl Comparison {
         if let Err(what) = self.breaches.hold(origin.set, origin.broken, Some(judged)) {
             if self.differs(origin, "the verdict on the tables") {
                 println!("  {what}");
-                show_tables(origin);
+                show_tables(origin.set, origin.broken);
             }
         }
         verdict
     }
 
-    /// One message: the outcome, the buffer and tag memory afterwards.
+    /// One message, through `ciplink_message` if it is `judged`.
     fn hold(&mut self, origin: Origin, case: &Case, judged: bool) {
         let set = origin.set;
-        let asked = Asked { tables: &set.tables, flags: set.flags, request: &case.message, limit: case.limit };
-        self.memory.take(&case.before);
-        self.buffer.fill(case.room, case.fill);
-        self.expected.clear();
-        let due = match &case.expected {
-            Expected::Refused(number) => {
-                self.tally.note_refused(*number);
-                REFUSED + u64::from(*number)
-            }
+        match &case.expected {
+            Expected::Refused(number) => self.tally.note_refused(*number),
             Expected::Replied(reply) => {
                 self.tally.note(&case.message, reply, set.flags.micro800);
                 self.longest = self.longest.max(reply.len());
                 self.long_pages += u64::from(lists_long_name(set, &case.message, reply));
-                self.expected.extend(reply);
-                self.expected.resize(case.limit.max(8), 0);
-                reply.len() as u64
             }
-        };
-        let kept = self.expected.len()..case.room;
-        self.expected.extend(kept.map(|at| pattern(case.fill, at)));
-        let judged = judged || due >= REFUSED;
-        let told = match judged {
-            true => ciplink::message(asked, self.memory.get(), self.buffer.get()),
-            // sound: the case is due a reply, and `ciplink_valid` took the tables
-            false => unsafe { ciplink::answer(asked, self.memory.get(), self.buffer.get()) },
-        };
-        *(if judged { &mut self.judged } else { &mut self.answered }) += 1;
+        }
         self.flags[set.flags.bits() as usize] += 1;
-        let same = told == due
-            && self.buffer.get() == &self.expected[..]
-            && self.memory.get() == &case.after[..]
-            && self.buffer.guarded()
-            && self.memory.guarded();
-        if !same && self.differs(origin, if judged { "ciplink_message" } else { "ciplink_answer" }) {
-            self.show(case, due, told);
-            show_tables(origin);
+        let held = self.port.hold(set, case, judged);
+        if !held.same && self.differs(origin, held.through) {
+            self.port.show(case, &held);
+            show_tables(set, origin.broken);
         }
     }
 
@@ -177,29 +153,13 @@ impl Comparison {
         self.differ <= PRINTED
     }
 
-    fn show(&mut self, case: &Case, due: u64, told: u64) {
-        println!("  request   {}", short(&case.message));
-        println!("  limit     {}, buffer of {} bytes", case.limit, case.room);
-        println!("  expected  {}", outcome(due, &self.expected));
-        println!("  the port: {}", outcome(told, self.buffer.get()));
-        show_difference("buffer", &self.expected, self.buffer.get());
-        show_difference("tag memory", &case.after, self.memory.get());
-        if !(self.buffer.guarded() && self.memory.guarded()) {
-            println!("  bytes beside the buffer or tag memory were written");
-        }
-        println!("  tag memory before   {}", short(&case.before));
-        if case.before != case.after {
-            println!("  tag memory, as due  {}", short(&case.after));
-        }
-    }
-
     fn print(&self) {
         let (answered, refused) = self.tally.messages();
         println!(
             "{} messages: {answered} answered, {refused} refused at the entry; through ciplink_message {}, through ciplink_answer {}",
             answered + refused,
-            self.judged,
-            self.answered
+            self.port.judged,
+            self.port.answered
         );
         self.tally.print();
         self.tally.print_refused();
@@ -239,42 +199,6 @@ fn judged(set: &Set) -> Judged {
     Judged { valid: ciplink::valid(t, memory), rule, told, guarded }
 }
 
-/// Bytes in hex, the middle of very many left out.
-fn short(bytes: &[u8]) -> String {
-    match bytes.len() {
-        0..=2000 => hex(bytes),
-        n => format!("{} .. ({n} bytes) .. {}", hex(&bytes[..1000]), hex(&bytes[n - 200..])),
-    }
-}
-
-fn outcome(number: u64, buffer: &[u8]) -> String {
-    match number.checked_sub(REFUSED) {
-        Some(refusal) => format!("refused by entry item {refusal}"),
-        None => {
-            let reply = &buffer[..buffer.len().min(number as usize)];
-            format!("a reply of {number} bytes: {}", short(reply))
-        }
-    }
-}
-
-fn show_difference(what: &str, due: &[u8], found: &[u8]) {
-    let differs = due.iter().zip(found).position(|(a, b)| a != b);
-    if let Some(at) = differs {
-        let some = |bytes: &[u8]| hex(&bytes[at..bytes.len().min(at + 20)]);
-        println!("  {what} from byte {at}: expected {} found {}", some(due), some(found));
-    }
-}
-
-fn show_tables(origin: Origin) {
-    if let Some(kind) = origin.broken {
-        println!("  tables broken: {}", kind.what);
-    }
-    match origin.set.tables.tags.len() {
-        0..=40 => println!("  tables {:X?}", origin.set.tables),
-        n => println!("  tables those of the seed, with {n} tags"),
-    }
-}
-
 fn numbers(words: &[String]) -> Option<Vec<u64>> {
     words.iter().map(|word| word.parse().ok()).collect()
 }
@@ -290,14 +214,17 @@ fn compare(seed: u64, sets: u64, messages: u64) -> i32 {
     i32::from(comparison.differ > 0)
 }
 
+const USAGE: &str = "messages SEED SETS MESSAGES\nmessages breaches SEED SETS\nmessages joined SEED SETS ROWS";
+
 fn main() {
     let words: Vec<String> = std::env::args().skip(1).collect();
-    let told_alone = words.first().is_some_and(|word| word == "breaches");
-    let status = match (told_alone, numbers(&words[usize::from(told_alone)..]).as_deref()) {
-        (false, Some(&[seed, sets, messages])) => compare(seed, sets, messages),
-        (true, Some(&[seed, sets])) => breaches::run(seed..seed + sets, |set| Some(judged(set))),
+    let mode = words.first().filter(|word| ["breaches", "joined"].contains(&word.as_str()));
+    let status = match (mode.map(String::as_str), numbers(&words[mode.iter().len()..]).as_deref()) {
+        (None, Some(&[seed, sets, messages])) => compare(seed, sets, messages),
+        (Some("breaches"), Some(&[seed, sets])) => breaches::run(seed..seed + sets, |set| Some(judged(set))),
+        (Some("joined"), Some(&[seed, sets, rows])) => joined::run(seed..seed + sets, rows),
         _ => {
-            eprintln!("messages SEED SETS MESSAGES\nmessages breaches SEED SETS");
+            eprintln!("{USAGE}");
             2
         }
     };

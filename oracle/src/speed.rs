@@ -181,15 +181,70 @@ fn compare(row: &Row, runs: usize, send: impl Fn(Asked, &mut [u8], &mut [u8]) ->
             return None;
         }
     }
-    let mut rust = |n: u64| drop(black_box(rust(n)));
-    let mut port = |n: u64| _ = black_box(port(n, &mut buffer));
+    Some(medians(runs, |n| drop(black_box(rust(n))), |n| _ = black_box(port(n, &mut buffer))))
+}
+
+/// The medians of both sides, which run in turn.
+fn medians(runs: usize, mut rust: impl FnMut(u64), mut port: impl FnMut(u64)) -> [f64; 2] {
     let counts = [calibrated(&mut rust), calibrated(&mut port)];
     let mut times = [Vec::new(), Vec::new()];
     for _ in 0..runs {
         times[0].push(time(counts[0], &mut rust));
         times[1].push(time(counts[1], &mut port));
     }
-    Some(times.map(median))
+    times.map(median)
+}
+
+/// Masks that are joined; an archive from before `ciplink_join_masks` is timed without them.
+#[cfg(not(feature = "older"))]
+mod joins {
+    use super::{black_box, ciplink, medians};
+
+    /// The formula as a plain function, in the place of the first pair; whether the lengths are equal.
+    #[inline(never)]
+    fn join(ors: &mut [u8], ands: &mut [u8], next_ors: &[u8], next_ands: &[u8]) -> u32 {
+        let length = ors.len();
+        if ands.len() != length || next_ors.len() != length || next_ands.len() != length {
+            return 0;
+        }
+        for j in 0..length {
+            ands[j] = (ands[j] | next_ors[j]) & next_ands[j];
+            ors[j] |= next_ors[j];
+        }
+        1
+    }
+
+    /// The masks of two masked writes: OR, AND, OR, AND.
+    type Two = [[u8; 8]; 4];
+
+    /// Joins the first bytes of the masks, as many as are wanted.
+    fn joined(by: fn(&mut [u8], &mut [u8], &[u8], &[u8]) -> u32, two: &mut Two, length: usize) -> u32 {
+        let [ors, ands, next_ors, next_ands] = two;
+        by(&mut ors[..length], &mut ands[..length], &next_ors[..length], &next_ands[..length])
+    }
+
+    /// The medians of both sides; None where the masks differ.
+    pub fn compare(length: usize, runs: usize) -> Option<[f64; 2]> {
+        // the port does not know the length beforehand; and many in turn, so that no call waits for the bytes of the one before
+        let length = black_box(length);
+        let mut rust: [Two; 64] = std::array::from_fn(|n| {
+            std::array::from_fn(|mask| std::array::from_fn(|j| (n * 37 + mask * 101 + j * 59) as u8))
+        });
+        let mut port = rust;
+        for (due, found) in rust.iter_mut().zip(&mut port) {
+            let told = [joined(join, due, length), joined(ciplink::join_masks, found, length)];
+            if due != found || told != [1, 1] {
+                println!("differs: masks joined\n  the Rust: {due:X?}\n  the port: {found:X?}");
+                return None;
+            }
+        }
+        let (of_rust, of_port) = (&mut rust, &mut port);
+        Some(medians(
+            runs,
+            |n| _ = black_box(joined(join, black_box(&mut of_rust[n as usize % 64]), length)),
+            |n| _ = black_box(joined(ciplink::join_masks, black_box(&mut of_port[n as usize % 64]), length)),
+        ))
+    }
 }
 
 fn main() {
@@ -214,6 +269,15 @@ fn main() {
         };
         match times {
             Some([rust, port]) => println!("| {} | {rust:.0} | {port:.0} | {:.2} |", row.what, port / rust),
+            None => differ = true,
+        }
+    }
+    #[cfg(not(feature = "older"))]
+    for length in [4, 8] {
+        match joins::compare(length, runs) {
+            Some([rust, port]) => {
+                println!("| masks joined, {length} bytes | {rust:.1} | {port:.1} | {:.2} |", port / rust)
+            }
             None => differ = true,
         }
     }

@@ -152,6 +152,8 @@ static void measure(const char *name, void (*call)(void), int requests) {
   printf("%-20s %6zu\n", name, most);
 }
 
+static void do_join(void) { result = ciplink_join_masks(out, 1024, out + 1024, 1024, out + 2048, 1024, out + 3072, 1024); }
+
 int main(void) {
   fill();
   measure("ciplink_valid", do_valid, 1);
@@ -160,5 +162,6 @@ int main(void) {
   measure("ciplink_answer", do_answer, 5);
   measure("ciplink_read_whole", do_read, 2);
   measure("ciplink_list_whole", do_list, 3);
+  measure("ciplink_join_masks", do_join, 1);
   return 0;
 }

@@ -14,6 +14,7 @@ ghost use Rattle.definition.specs.Valid.{valid};
 ghost use Rattle.definition.specs.Breach.{breach};
 ghost use Rattle.definition.specs.Answer.{answer};
 ghost use Rattle.definition.specs.Entry.{entry};
+ghost use Rattle.definition.specs.Joined.{pair, joinable, joinedTo};
 ghost use Rattle.model.specs.Tables.{tablesOf, flagsOf};
 ghost use Rattle.services.specs.Answers.{Answers};
 ghost use Rattle.whole.specs.Whole.{wholeRead};
@@ -309,4 +310,22 @@ pub extern "C" fn ciplink_list_whole(
         buf,
         out,
     ))
+}
+
+/// Joins the masks of a masked write with those of the next one to the same target, in the place of the first pair: 1, or 0 where
+/// the four are not of one length; nothing is written then.
+#[no_mangle]
+pub extern "C" fn ciplink_join_masks(
+    ors: &mut [u8],
+    ands: &mut [u8],
+    next_ors: &[u8],
+    next_ands: &[u8],
+) -> u32
+    ensures { λ r. let first = pair (now (ors .entry)) (now (ands .entry)) in let next = pair (now («next_ors» .entry)) (now («next_ands» .entry)) in
+        ⌜ (r ≡ pick (joinable first next) 1 0) × (pair (now (ors .exit)) (now (ands .exit)) ≡ joinedTo first next) ⌝ }
+{
+    if writes::masks::join_masks(ors, ands, next_ors, next_ands) {
+        return 1;
+    }
+    0
 }

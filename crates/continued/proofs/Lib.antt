@@ -7,3 +7,4 @@ pub mod Point3
 pub mod Examples
 pub mod Program
 pub mod Wrong
+pub mod Clicks

@@ -135,13 +135,13 @@ result-of t f s m = go (enters t f m (s .request) (s .limit) (s .buffer))
     go (stopped number a b e) = let x = refusal-by number a b in (Refused (x .0), rw e (x .1))
     go (taken a b c d e) = (Reply (length (answer t f m (s .request) (s .limit) .reply)), rw e refl)
 
-pub message-point-3 : Message-point-3
-message-point-3 t f = (program-point-3 t f (ByMessage t f) faithful, total)
-  where
-    faithful : Faithful t f (ByMessage t f)
-    faithful s m o buffer left (r, e, x) =
-        leaves-by t f s m o buffer left (e ∙ told-says r (respond t f s m .outcome) buffer (x .outcome-is)) (x .buffer-is) (x .memory-is)
+pub message-faithful : (t : Tables) (f : Flags) → Faithful t f (ByMessage t f)
+message-faithful t f s m o buffer left (r, e, x) =
+    leaves-by t f s m o buffer left (e ∙ told-says r (respond t f s m .outcome) buffer (x .outcome-is)) (x .buffer-is) (x .memory-is)
 
+pub message-point-3 : Message-point-3
+message-point-3 t f = (program-point-3 t f (ByMessage t f) (message-faithful t f), total)
+  where
     total : Total (ByMessage t f)
     total s m =
         let x = result-of t f s m in

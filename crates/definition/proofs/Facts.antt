@@ -10,12 +10,12 @@ use native.Mathlib.Omega.{arith}
 use lib.Dec.{ltb, leb, eqb}
 use lib.ListN.{length, getD, drop}
 use lib.Seq.{getD-take, getD-drop}
-use borrow.Author.Tests.{ltb-true, leb-true, lt-ltb, eqb-true, eqb-false}
+use borrow.Author.Tests.{ltb-true, leb-true, lt-ltb, le-ltb, lt-leb, eqb-true, eqb-false}
 use Rattle.laws.specs.Pick.{either}
 use Rattle.laws.proofs.Chain.{by-test, pick-all}
 use Rattle.laws.proofs.Tests.{both-true, either-true, every-at, everyFrom-at, not-empty}
 use Rattle.definition.specs.Tables.{Tables, Row, field, structureSize, templateStart, templateLength, structureAt, membersOf, memberType, memberLength, memberOffset, memberBit, noBit, tagType, tagLengths, nonzero, lengthsOf, tagElements}
-use Rattle.definition.specs.Types.{isStructure, isDwordArray, elementSize, sizeIn, DWORD}
+use Rattle.definition.specs.Types.{atomicSize, isStructure, isDwordArray, elementSize, sizeIn, DWORD}
 use Rattle.definition.specs.Lookup.{tagAt}
 use Rattle.definition.specs.Valid.{isType, encoded, t1, t2, t3, memberFits, structureFits, t4, product, zerosLast, isBoolArray, tagFits, t5, tagEnd, t6, valid}
 use Rattle.definition.specs.Resolve.{indexLengths}
@@ -31,6 +31,16 @@ type-of-more : (a b type : ℕ) → a ≤ b → isType a type ≡ true → isTyp
 unfolding isType
 type-of-more a b type h e =
     by-test (isStructure type) (λ s. rw s (lt-ltb _ b (omega (arith, structure-in a type s e)))) (λ s. rw s (rw s at e))
+
+-- an element has its code's bytes at least: a structure has no code
+pub atomic-inside : (structures : List Row) (type : ℕ) → atomicSize type ≤ sizeIn structures type
+unfolding sizeIn atomicSize
+atomic-inside structures type =
+    by-test (isStructure type)
+    (λ s. let h = leb-true 0x100 type s in
+    rw (le-ltb type 0xC1 (omega arith), lt-leb type 0xCB (omega arith), le-ltb type 0xD1 (omega arith), lt-leb type 0xD4 (omega arith))
+    (omega arith))
+    (λ s. rw s (omega arith))
 
 -- a type of the table has some bytes, if each structure has
 pub size-some : (structures : List Row) (type : ℕ) → ((i : ℕ) → i < length structures → 0 < structureSize (getD structures i []))

@@ -31,15 +31,15 @@ use Rattle.definition.proofs.Theorems.{past-entry}
 
 -- ---- a reply that is neither 0x00 nor 0x06
 
-abbrev Away : List ℕ → Type 0
+abbrev pub Away : List ℕ → Type 0
 Away r = isDone (getD r 2 0) ≡ false
 
-fail-away : (service : ℕ) (s : Status) → Refuses s → Away (fail service s)
+pub fail-away : (service : ℕ) (s : Status) → Refuses s → Away (fail service s)
 unfolding reply
 fail-away service (general code) k = k .1
 fail-away service (extended code word) k = k .1
 
-otherwise-away : (service limit : ℕ) (o : Object) → Away (capped service limit (otherwise service o))
+pub otherwise-away : (service limit : ℕ) (o : Object) → Away (capped service limit (otherwise service o))
 unfolding capped reply
 otherwise-away service limit noObject = pick-all Away (leb 4 limit) refl refl
 otherwise-away service limit (object c i) =
@@ -47,10 +47,10 @@ otherwise-away service limit (object c i) =
     (λ e. rw e (pick-all Away (leb 4 limit) refl refl))
     (λ e. rw e (pick-all Away (leb 4 limit) refl refl))
 
-abbrev Done : List ℕ → Type 0
+abbrev pub Done : List ℕ → Type 0
 Done r = (getD r 2 0 ≡ 0x00) ⊎ (getD r 2 0 ≡ 0x06)
 
-done : (r : List ℕ) → Done r → Away r → ⊥
+pub done : (r : List ℕ) → Done r → Away r → ⊥
 done r (inl e) k = let z : _≡_ {A = ℕ} 0 1 = cc (rw e at k) in omega arith
 done r (inr e) k = let z : _≡_ {A = ℕ} 0 1 = cc (rw e at k) in omega arith
 

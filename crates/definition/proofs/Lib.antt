@@ -6,6 +6,7 @@ pub mod Facts
 pub mod FormerSegment
 pub mod Granted
 pub mod Inside
+pub mod Joined
 pub mod Lengths
 pub mod Listing
 pub mod OneRead

@@ -104,7 +104,7 @@ alone-honest t f memory message limit service path body q w =
     (target-honest t memory service (tagTarget t f (isWrite service) path) body limit))
 
 -- a message that decodes has its first byte as its service
-abbrev Parsed : List ℕ → Request → Type 0
+abbrev pub Parsed : List ℕ → Request → Type 0
 Parsed message malformed = Unit {0}
 Parsed message (request service path body) = service ≡ getD message 0 0
 
@@ -112,7 +112,7 @@ with-path : (message : List ℕ) (o : Option (List Segment)) (body : List ℕ) �
 with-path message none body = tt
 with-path message (some p) body = refl
 
-parsed : (message : List ℕ) → Parsed message (requestOf message)
+pub parsed : (message : List ℕ) → Parsed message (requestOf message)
 unfolding requestOf
 parsed message =
     pick-all (Parsed message) (ltb (length message) (2 + 2 * getD message 1 0)) tt

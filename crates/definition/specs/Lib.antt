@@ -21,9 +21,10 @@ pub mod Symbols
 pub mod Envelope
 pub mod Answer
 pub mod Entry
--- Which rule broken tables are told, and what is promised of it and of all the above.
+-- Which rule broken tables are told, how masks are joined, and what is promised of these and of all the above.
 pub mod Breach
 pub mod Told
+pub mod Joined
 pub mod Promises
 -- For proofs and examples: they define nothing of the controller.
 pub mod Computed

@@ -1,16 +1,18 @@
--- Theorems about the definition, each a named statement; proofs/Theorems, Granted, Inside, Stored, OtherNames and OneRead prove them.
+-- Theorems about the definition, each a named statement; proofs/Theorems, Granted, Inside, Stored, OtherNames, OneRead and Joined prove them.
 -- Points 1 to 3 are those of document 00: the first part is point 1, and what points 2 and 3 lean on follows; then what document 02 adds.
 use mathlib.Core.Path.{_≡_}
 use mathlib.Core.Logic.{_≢_, _↔_, _⊎_}
 use mathlib.Core.Bool.{Bool, true, false}
 use mathlib.Core.List.{List, [], _∷_}
+use mathlib.Core.Option.{some}
 use Prim.Native.Nat.{ℕ, _+_, _*_, _≤_, _<_}
 use lib.Bits.{bitOr, bitAnd}
 use lib.Dec.{ltb, eqb}
 use lib.ListN.{length, getD, drop}
 use Rattle.laws.specs.Pick.{pick, _&_}
+use Rattle.laws.specs.Put.{put}
 use Rattle.laws.specs.Tests.{every, pairs, some-of}
-use Rattle.definition.specs.Bytes.{u16At, u32At}
+use Rattle.definition.specs.Bytes.{u16At, u32At, part}
 use Rattle.definition.specs.Reply.{room, fail, tooShort}
 use Rattle.definition.specs.Segment.{Segment}
 use Rattle.definition.specs.Request.{request, requestOf, isTagPath}
@@ -21,10 +23,11 @@ use Rattle.definition.specs.Valid.{encoded, t1, isName, isOtherName, tag
 use Rattle.definition.specs.Resolve.{Target, found}
 use Rattle.definition.specs.Access.{tagTarget}
 use Rattle.definition.specs.Read.{Selection, granted, ask, askTarget, send, readAt, fields, readFields, readReply}
-use Rattle.definition.specs.Masked.{masked}
+use Rattle.definition.specs.Masked.{masked, takesMask}
 use Rattle.definition.specs.Envelope.{envelopeService, partAnswer}
 use Rattle.definition.specs.Answer.{isRead, isWrite, partDispatch, answer}
 use Rattle.definition.specs.Entry.{refused, replied, entry}
+use Rattle.definition.specs.Joined.{Masks, maskedBy, join, joinRow, noChange, isByte, masksIn}
 
 -- ---- for all tables, flags, memories, messages, limits and buffers
 
@@ -179,3 +182,146 @@ Opening-not-refused =
     → requestOf message ≡ request service path body → readFields service body ≡ fields elements 0
     → entry t f memory message limit buffer .outcome ≡ replied r
     → ((getD r 2 0 ≡ 0x00) ⊎ (getD r 2 0 ≡ 0x06)) ↔ Grants t f path elements
+
+-- ---- document 02, P13: masked writes in a row
+
+-- of bytes, at any width: masked twice is masked once, by joined masks
+abbrev pub Masked-again : Type 0
+Masked-again = (bytes : List ℕ) (first next : Masks) → maskedBy (maskedBy bytes first) next ≡ maskedBy bytes (join first next)
+
+-- zeros with all ones leave bytes as they were
+abbrev pub Masked-by-no-change : Type 0
+Masked-by-no-change = (bytes : List ℕ) → every isByte bytes ≡ true → maskedBy bytes (noChange (length bytes)) ≡ bytes
+
+-- which two of three are joined first makes no difference
+abbrev pub Join-associates : Type 0
+Join-associates = (first second third : Masks) → join (join first second) third ≡ join first (join second third)
+
+-- joined with zeros and all ones, before or behind, a pair stays as it is
+abbrev pub Join-no-change : Type 0
+Join-no-change =
+    (size : ℕ) (m : Masks) → length (m .ors) ≡ size → length (m .ands) ≡ size → every isByte (m .ors) ≡ true → every isByte (m .ands) ≡ true
+    → (join (noChange size) m ≡ m) × (join m (noChange size) ≡ m)
+
+-- a masked write in any bytes: what the definition decodes as a 0x4E of these segments with these masks
+pub record Masking (path : List Segment) (m : Masks) (message : List ℕ) : Type 0 where
+  pub body : List ℕ
+  pub is : requestOf message ≡ request 0x4E path body
+  pub masks-are : masksIn body ≡ some m
+
+-- a path whose target, which a write may change, starts at this byte of tag memory
+pub record Targets (t : Tables) (f : Flags) (path : List Segment) (start : ℕ) : Type 0 where
+  pub target : Target
+  pub permitted-is : tagTarget t f true path ≡ found target
+  pub start-is : target .start ≡ start
+
+-- a tag path of which this holds, and whose target takes masks of a size
+pub record TakesMasks (t : Tables) (f : Flags) (path : List Segment) (start size : ℕ) : Type 0 where
+  pub tag-path : isTagPath path ≡ true
+  pub targets : Targets t f path start
+  pub takes : takesMask (targets .target) size ≡ true
+
+-- nothing but broken tables keeps a message with this limit and this buffer from a reply: items 1 to 3
+pub record Sendable (message : List ℕ) (limit : ℕ) (buffer : List ℕ) : Type 0 where
+  pub request-fits : length message ≤ 65535
+  pub limit-fits : limit ≤ 65535
+  pub has-room : room limit ≤ length buffer
+
+-- a message that is accepted: answered with status 0; the memory that it leaves
+pub record Accepts (t : Tables) (f : Flags) (memory message : List ℕ) (limit : ℕ) (buffer left : List ℕ) : Type 0 where
+  pub bytes : List ℕ
+  pub replied-is : entry t f memory message limit buffer .outcome ≡ replied bytes
+  pub success-is : getD bytes 2 0 ≡ 0x00
+  pub left-is : entry t f memory message limit buffer .memory ≡ left
+
+-- what an accepted 0x4E is, and what it leaves
+pub record MaskedWrite (t : Tables) (f : Flags) (memory message left : List ℕ) : Type 0 where
+  pub path : List Segment
+  pub masks : Masks
+  pub start : ℕ
+  pub masking : Masking path masks message
+  pub takes-masks : TakesMasks t f path start (length (masks .ors))
+  pub stored : left ≡ put memory start (maskedBy (part memory start (length (masks .ors))) masks)
+
+abbrev pub Accepted-masks : Type 0
+Accepted-masks =
+    (t : Tables) (f : Flags) (memory message : List ℕ) (limit : ℕ) (buffer left : List ℕ)
+    → getD message 0 0 ≡ 0x4E → Accepts t f memory message limit buffer left → MaskedWrite t f memory message left
+
+-- its reply is CE 00 00 00
+abbrev pub Accepted-reply : Type 0
+Accepted-reply =
+    (t : Tables) (f : Flags) (memory message : List ℕ) (limit : ℕ) (buffer left : List ℕ)
+    → getD message 0 0 ≡ 0x4E → Accepts t f memory message limit buffer left
+    → entry t f memory message limit buffer .outcome ≡ replied (0xCE ∷ 0x00 ∷ 0x00 ∷ 0x00 ∷ [])
+
+-- and every such message is accepted
+abbrev pub Masks-accepted : Type 0
+Masks-accepted =
+    (t : Tables) (f : Flags) (memory message : List ℕ) (limit : ℕ) (buffer left : List ℕ)
+    → valid t (length memory) ≡ true → Sendable message limit buffer → MaskedWrite t f memory message left
+    → Accepts t f memory message limit buffer left
+
+-- an accepted masked write of these masks to a target that starts at this byte, in any bytes, by any path, at any limit
+pub record Click (t : Tables) (f : Flags) (start : ℕ) (memory : List ℕ) (m : Masks) (left : List ℕ) : Type 0 where
+  pub path : List Segment
+  pub message : List ℕ
+  pub limit : ℕ
+  pub buffer : List ℕ
+  pub masking : Masking path m message
+  pub targets : Targets t f path start
+  pub accepted : Accepts t f memory message limit buffer left
+
+-- two in a row to one target leave what one with joined masks leaves, sent to any path of that target; it is accepted
+abbrev pub Masks-join : Type 0
+Masks-join =
+    (t : Tables) (f : Flags) (start : ℕ) (memory between left : List ℕ) (first next : Masks)
+    → Click t f start memory first between → Click t f start between next left → length (first .ors) ≡ length (next .ors)
+    → (path : List Segment) (message : List ℕ) (limit : ℕ) (buffer : List ℕ)
+    → TakesMasks t f path start (length (first .ors)) → Masking path (join first next) message → Sendable message limit buffer
+    → Accepts t f memory message limit buffer left
+
+-- the first one's path and the second one's are such paths
+abbrev pub Masks-join-there : Type 0
+Masks-join-there =
+    (t : Tables) (f : Flags) (start : ℕ) (memory between left : List ℕ) (first next : Masks)
+    → (one : Click t f start memory first between) (two : Click t f start between next left) → length (first .ors) ≡ length (next .ors)
+    → (path : List Segment) (message : List ℕ) (limit : ℕ) (buffer : List ℕ)
+    → (path ≡ one .path) ⊎ (path ≡ two .path) → Masking path (join first next) message → Sendable message limit buffer
+    → Accepts t f memory message limit buffer left
+
+-- a row of them, one behind the other
+pub data Clicks (t : Tables) (f : Flags) (start size : ℕ) : List ℕ → List Masks → List ℕ → Type 0 where
+  no-more : {memory : List ℕ} → Clicks t f start size memory [] memory
+  one-more : {memory between left : List ℕ} {m : Masks} {rest : List Masks}
+      → Click t f start memory m between → length (m .ors) ≡ size → Clicks t f start size between rest left
+      → Clicks t f start size memory (m ∷ rest) left
+
+-- however many: one masked write does for all
+abbrev pub All-masks-join : Type 0
+All-masks-join =
+    (t : Tables) (f : Flags) (start size : ℕ) (memory left : List ℕ) (first : Masks) (rest : List Masks)
+    → Clicks t f start size memory (first ∷ rest) left
+    → (path : List Segment) (message : List ℕ) (limit : ℕ) (buffer : List ℕ)
+    → TakesMasks t f path start size → Masking path (joinRow first rest) message → Sendable message limit buffer
+    → Accepts t f memory message limit buffer left
+
+-- zeros with all ones are accepted and leave tag memory as it was, where this holds bytes
+abbrev pub No-change-accepted : Type 0
+No-change-accepted =
+    (t : Tables) (f : Flags) (memory message : List ℕ) (limit : ℕ) (buffer : List ℕ) (path : List Segment) (start size : ℕ)
+    → valid t (length memory) ≡ true → every isByte memory ≡ true
+    → TakesMasks t f path start size → Masking path (noChange size) message → Sendable message limit buffer
+    → Accepts t f memory message limit buffer memory
+
+-- two parts of an envelope in a row, too
+abbrev pub Parts-join : Type 0
+Parts-join =
+    (t : Tables) (f : Flags) (start : ℕ) (memory a b c : List ℕ) (limit-a limit-b limit-c : ℕ) (path-a path-b path-c : List Segment) (first next : Masks)
+    → valid t (length memory) ≡ true → length (first .ors) ≡ length (next .ors)
+    → Masking path-a first a → Targets t f path-a start → Masking path-b next b → Targets t f path-b start
+    → Masking path-c (join first next) c → TakesMasks t f path-c start (length (first .ors))
+    → let one = partAnswer (partDispatch t f) memory a limit-a in
+    let two = partAnswer (partDispatch t f) (one .memory) b limit-b in
+    let single = partAnswer (partDispatch t f) memory c limit-c in
+    getD (one .reply) 2 0 ≡ 0x00 → getD (two .reply) 2 0 ≡ 0x00 → (getD (single .reply) 2 0 ≡ 0x00) × (single .memory ≡ two .memory)

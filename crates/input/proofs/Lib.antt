@@ -3,3 +3,4 @@ pub mod Text
 pub mod Parsing
 pub mod Worked
 pub mod Choosing
+pub mod Joining

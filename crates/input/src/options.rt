@@ -11,6 +11,7 @@ pub enum Argument {
     Help,
     Numbers,
     Tables,
+    Join,
     /// The name of a table image.
     File,
     /// It begins with a minus sign and is no option.
@@ -24,6 +25,7 @@ pub struct Options {
     pub help: bool,
     pub numbers: bool,
     pub tables: bool,
+    pub join: bool,
     /// The word that names the file, 0 where none does.
     pub file: usize,
     /// The first word that is not taken, 0 where all are.
@@ -31,12 +33,13 @@ pub struct Options {
 }
 
 pub fn none() -> Options
-    ensures { λ r. ⌜ (r .help ≡ false) × (r .numbers ≡ false) × (r .tables ≡ false) × (r .file ≡ 0) × (r .wrong ≡ 0) ⌝ }
+    ensures { λ r. ⌜ (r .help ≡ false) × (r .numbers ≡ false) × (r .tables ≡ false) × (r .join ≡ false) × (r .file ≡ 0) × (r .wrong ≡ 0) ⌝ }
 {
     Options {
         help: false,
         numbers: false,
         tables: false,
+        join: false,
         file: 0,
         wrong: 0,
     }
@@ -64,7 +67,8 @@ fn agrees(a: &[u8], b: &[u8]) -> bool
     true
 }
 
-fn same(a: &[u8], b: &[u8]) -> bool
+/// Whether two texts are the same.
+pub fn same(a: &[u8], b: &[u8]) -> bool
     ensures { λ r. ⌜ r ≡ agree eqb (now (a .entry)) (now (b .entry)) ⌝ }
 {
     if a.len() != b.len() {
@@ -93,6 +97,9 @@ fn option_of(text: &[u8]) -> Argument
     }
     if same(text, b"--tables") {
         return Argument::Tables;
+    }
+    if same(text, b"--join") {
+        return Argument::Join;
     }
     Argument::Unknown
 }
@@ -128,6 +135,7 @@ fn refused(o: Options, i: usize) -> Options
         help: o.help,
         numbers: o.numbers,
         tables: o.tables,
+        join: o.join,
         file: o.file,
         wrong: first(o.wrong, i),
     }
@@ -144,6 +152,7 @@ fn file(o: Options, i: usize) -> Options
         help: o.help,
         numbers: o.numbers,
         tables: o.tables,
+        join: o.join,
         file: i,
         wrong: o.wrong,
     }
@@ -158,6 +167,7 @@ pub fn taken(o: Options, w: Argument, i: usize) -> Options
             help: true,
             numbers: o.numbers,
             tables: o.tables,
+            join: o.join,
             file: o.file,
             wrong: o.wrong,
         },
@@ -165,6 +175,7 @@ pub fn taken(o: Options, w: Argument, i: usize) -> Options
             help: o.help,
             numbers: true,
             tables: o.tables,
+            join: o.join,
             file: o.file,
             wrong: o.wrong,
         },
@@ -172,6 +183,15 @@ pub fn taken(o: Options, w: Argument, i: usize) -> Options
             help: o.help,
             numbers: o.numbers,
             tables: true,
+            join: o.join,
+            file: o.file,
+            wrong: o.wrong,
+        },
+        Argument::Join => Options {
+            help: o.help,
+            numbers: o.numbers,
+            tables: o.tables,
+            join: true,
             file: o.file,
             wrong: o.wrong,
         },

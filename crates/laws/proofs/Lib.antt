@@ -7,6 +7,7 @@ pub mod Table
 pub mod Items
 pub mod Until
 pub mod Put
+pub mod Bits
 pub mod Parts
 pub mod Sorted
 pub mod Tests

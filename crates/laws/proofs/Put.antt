@@ -6,7 +6,7 @@ use Prim.Native.Nat.{ℕ, zero, suc, _+_, _-_, _≤_, _<_}
 use native.Mathlib.Omega.{arith}
 use native.Mathlib.Numerals.{add-one}
 use native.Mathlib.Nat.{add-assoc, add-zero, sub-self, zero-add}
-use lib.ListN.{length, take, drop, set, replicate, length-append, length-drop, length-replicate, take-append-drop, replicate-append-replicate}
+use lib.ListN.{length, take, drop, set, replicate, length-append, length-drop, length-replicate, take-append-drop, drop-of-length-le, replicate-append-replicate}
 use lib.Seq.{take-at, drop-at, drop-append-add, drop-drop, length-take-le, set-split, append-snoc, take-all, take-take, take-nil, drop-cons, set-at, paste}
 use Rattle.laws.specs.Put.{put, laid, zeroed, KeptFrom}
 
@@ -43,6 +43,45 @@ put-put xs a ys zs h =
     ap (λ (l : List ℕ). l ++ zs ++ drop (a + length ys + length zs) (put xs a ys)) (take-put xs a ys fits)
     ∙ ap (λ (l : List ℕ). take a xs ++ ys ++ zs ++ l) (drop-put xs a ys fits (length zs))
     ∙ simp (append-assoc, length-append, add-assoc)
+
+-- what stands before a write is as it was
+pub put-before : (xs : List ℕ) (a : ℕ) (ys : List ℕ) → a ≤ length xs → take a (put xs a ys) ≡ take a xs
+unfolding put
+put-before xs a ys h =
+    let rest = drop (a + length ys) xs in
+    ap (take a) (append-assoc (take a xs) ys rest) ∙ take-at (take a xs) (ys ++ rest) a (length-take-le a xs h)
+
+-- a second write in the first one's place leaves nothing of the first
+pub put-again : (xs : List ℕ) (a : ℕ) (ys zs : List ℕ) → a + length ys ≤ length xs → length zs ≡ length ys
+    → put (put xs a ys) a zs ≡ put xs a zs
+unfolding put
+put-again xs a ys zs h e =
+    ap (λ (l : List ℕ). l ++ zs ++ drop (a + length zs) (put xs a ys)) (put-before xs a ys (omega arith))
+    ∙ ap (λ (l : List ℕ). take a xs ++ zs ++ l) (drop-put-past xs a ys h (a + length zs) (omega arith))
+
+-- what stands where it was written is what was written
+pub part-put : (xs : List ℕ) (a : ℕ) (ys : List ℕ) → a + length ys ≤ length xs → take (length ys) (drop a (put xs a ys)) ≡ ys
+unfolding put
+part-put xs a ys h =
+    let rest = drop (a + length ys) xs in
+    ap (take (length ys))
+    (ap (drop a) (append-assoc (take a xs) ys rest) ∙ drop-at (take a xs) (ys ++ rest) a (length-take-le a xs (omega arith)))
+    ∙ take-at ys rest (length ys) refl
+
+-- a part that is written back where it stood
+pub put-part : (xs : List ℕ) (a n : ℕ) → a + n ≤ length xs → put xs a (take n (drop a xs)) ≡ xs
+unfolding put
+put-part xs a n h =
+    ap (λ (k : ℕ). take a xs ++ take n (drop a xs) ++ drop (a + k) xs) (length-take-le n (drop a xs) (simp length-drop (omega arith)))
+    ∙ append-assoc (take a xs) (take n (drop a xs)) (drop (a + n) xs)
+    ∙ ap (λ (l : List ℕ). take a xs ++ (take n (drop a xs) ++ l)) (sym (drop-drop n a xs))
+    ∙ ap (λ (l : List ℕ). take a xs ++ l) (take-append-drop n (drop a xs))
+    ∙ take-append-drop a xs
+
+-- a write of the whole list
+pub put-all : (xs ys : List ℕ) → length ys ≡ length xs → put xs 0 ys ≡ ys
+unfolding put
+put-all xs ys e = simp (zero-add, drop-of-length-le xs {i = length ys} (omega arith)) (append-nil ys)
 
 pub put-none : (xs : List ℕ) (at : ℕ) → put xs at [] ≡ xs
 unfolding put

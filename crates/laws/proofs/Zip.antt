@@ -1,16 +1,19 @@
 -- A loop that compares two lists of one length: the invariant is `agree p (drop i a) (drop i b) ≡ agree p a b`, with `length a ≡ length b`.
 -- Assumes nothing.
-use mathlib.Core.Path.{_≡_, refl, sym, ap, _∙_}
+use mathlib.Core.Path.{_≡_, refl, sym, ap, ap₂, _∙_}
 use mathlib.Core.Bool.{Bool, true, false}
 use mathlib.Core.List.{List, [], _∷_}
 use Prim.Native.Nat.{ℕ, zero, suc, _+_, _<_, _≤_}
 use native.Mathlib.Numerals.{add-one}
 use native.Mathlib.Omega.{arith}
+use lib.Dec.{eqb}
 use lib.ListN.{length, getD, take, drop, drop-of-length-le}
 use lib.Seq.{drop-cons}
+use borrow.Author.Tests.{eqb-true}
 use Rattle.laws.specs.Pick.{both}
 use Rattle.laws.specs.Zip.{agree}
-use Rattle.laws.proofs.Tests.{both-none, both-assoc}
+use Rattle.laws.proofs.Chain.{clash}
+use Rattle.laws.proofs.Tests.{both-none, both-true, both-assoc}
 
 both-false : (t : Bool) {u : Bool} → false ≡ u → false ≡ both t u
 both-false true e = e
@@ -26,6 +29,16 @@ agree-length p [] [] h = absurd (h refl)
 agree-length p [] (y ∷ ys) h = refl
 agree-length p (x ∷ xs) [] h = refl
 agree-length p (x ∷ xs) (y ∷ ys) h = both-false (p x y) (agree-length p xs ys (λ e. h (ap suc e)))
+
+-- two lists of numbers that agree are one
+pub agree-same : (a b : List ℕ) → agree eqb a b ≡ true → a ≡ b
+unfolding agree
+agree-same [] [] e = refl
+agree-same [] (y ∷ ys) e = clash (cc e)
+agree-same (x ∷ xs) [] e = clash (cc e)
+agree-same (x ∷ xs) (y ∷ ys) e =
+    let h = both-true (eqb x y) (agree eqb xs ys) e in
+    ap₂ _∷_ (eqb-true x y (h .0)) (agree-same xs ys (h .1))
 
 -- two lists in two parts each, the second ones compared first
 agree-split : {A B : Type 0} (p : A → B → Bool) (m : ℕ) (a : List A) (b : List B)

@@ -1,5 +1,5 @@
 // What `--help` prints.
-use crate::say;
+use console::say;
 
 pub fn show() {
     say::text(
@@ -9,6 +9,9 @@ pub fn show() {
         b"  simulator [--numbers] [TABLES]    answers; TABLES is a table image, else the pallet bench\n",
     );
     say::text(b"  simulator --tables [TABLES]       lists the tags and other symbols, and ends\n");
+    say::text(
+        b"  simulator --join                  joins masked writes in a row to one path, as requests, and ends\n",
+    );
     say::text(b"  simulator --help                  this\n\n");
     say::text(b"  --numbers    the line's number before each reply, as `12: `\n\n");
     say::text(

@@ -3,11 +3,10 @@
 mod bench;
 mod help;
 mod image;
-mod lines;
-mod reply;
-mod say;
 mod session;
 
+use console::join;
+use console::say;
 use input::options;
 use input::options::Argument;
 use input::options::Options;
@@ -69,6 +68,15 @@ fn asked() -> Options {
     o
 }
 
+/// Joins rows of masked writes; no controller answers, so no table image is taken.
+fn join_lines(o: Options) {
+    if o.file != 0 {
+        complain(o.file);
+        return;
+    }
+    join::start();
+}
+
 fn main() {
     let o = asked();
     if o.wrong != 0 {
@@ -77,6 +85,10 @@ fn main() {
     }
     if o.help {
         help::show();
+        return;
+    }
+    if o.join {
+        join_lines(o);
         return;
     }
     if o.file == 0 {

@@ -5,11 +5,10 @@ ghost use Prim.Native.Nat.{_≤_};
 ghost use lib.ListN.{length};
 ghost use Rattle.definition.specs.Valid.{valid};
 ghost use Rattle.model.specs.Tables.{tablesOf};
-use crate::lines;
-use crate::reply;
-use crate::say;
+use console::lines;
+use console::reply;
+use console::say;
 use input::hex;
-use input::hex::Fault;
 use input::hex::Line;
 use input::lines::Cursor;
 use input::options::Options;
@@ -57,17 +56,6 @@ fn respond(
     reply::show(&buf[..n], numbers, number);
 }
 
-/// Says what keeps a line from being a request.
-fn complain(line: u64, f: Fault) {
-    match f {
-        Fault::Digit => say::about_line(line, b"not a hex digit"),
-        Fault::Odd => say::about_line(line, b"an odd number of hex digits"),
-        Fault::NoNumber => say::about_line(line, b"the limit is not a number"),
-        Fault::OverLimit => say::about_line(line, b"the limit is over 65535"),
-        Fault::TooLong => say::about_line(line, b"the request is longer than 65535 bytes"),
-    }
-}
-
 /// Answers a line, unless it is the rest of one that was too long.
 fn serve_line(
     structures: &[[u32; 10]],
@@ -95,7 +83,7 @@ fn serve_line(
     }
     match hex::parse(line, request) {
         Line::Empty => {}
-        Line::Wrong(f) => complain(number, f),
+        Line::Wrong(f) => lines::complain(STDOUT_FILENO, number, f),
         Line::Request(limit, n) => respond(
             structures,
             members,

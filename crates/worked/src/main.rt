@@ -1,10 +1,12 @@
 // The worked examples of document 02's requests, a line each: what is asked, and what is answered.
 mod asked;
+mod clicks;
 mod hex;
 mod long_names;
 mod long_pages;
 mod one_read;
 mod path_steps;
+mod plant;
 
 fn main() {
     long_names::other_symbols();
@@ -19,4 +21,8 @@ fn main() {
     one_read::continued();
     one_read::replaced();
     one_read::again();
+    clicks::rows();
+    clicks::no_rows();
+    clicks::masks();
+    clicks::requests();
 }

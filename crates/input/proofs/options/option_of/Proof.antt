@@ -21,6 +21,10 @@ returns-4 : tie.Need-returns-4
 unfolding optionOf
 returns-4 c = search (chain, by-call)
 
+returns-5 : tie.Need-returns-5
+unfolding optionOf
+returns-5 c = search (chain, by-call)
+
 pub option-of-spec : {M : Type 1} → statement M
 option-of-spec =
     tie.close
@@ -34,4 +38,7 @@ option-of-spec =
     (λ c. search needs)
     (λ c κs. search needs)
     returns-3
-    returns-4)
+    (λ c. search needs)
+    (λ c κs. search needs)
+    returns-4
+    returns-5)

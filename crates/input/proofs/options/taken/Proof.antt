@@ -21,10 +21,14 @@ returns-5 c = cc
 returns-6 : tie.Need-returns-6
 returns-6 c = cc
 
+returns-7 : tie.Need-returns-7
+returns-7 c = cc
+
 pub taken-spec : {M : Type 1} → statement M
 taken-spec =
     tie.close
     (tie.spec
+    (λ c. search needs)
     (λ c. search needs)
     (λ c. search needs)
     (λ c. search needs)
@@ -39,4 +43,5 @@ taken-spec =
     returns-3
     returns-4
     returns-5
-    returns-6)
+    returns-6
+    returns-7)
