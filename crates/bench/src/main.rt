@@ -1,6 +1,8 @@
 // Runs the pallet bench of document 01, the examples of 1756-PM020, and continued reads and pages through `message`, and
 // compares each reply, and tag memory where it is named; before these it shows segment and validity vectors. The starred
 // lines of the bench are one theorem too (proofs/).
+#![tactic(auto)]
+
 mod ask;
 mod controller;
 mod examples;

@@ -1,4 +1,6 @@
 // Breaks a table set in each test of the definition in turn and writes what is said of it; then sets that break none.
+#![tactic(auto)]
+
 ghost use Rattle.std.specs.Prelude.{◌≤◌};
 
 mod base;

@@ -1,5 +1,7 @@
 // CIP replies in a lent buffer: little-endian numbers, the reply header, statuses, the zeros after a reply.
 // Each writer's contract is one equation: the buffer at exit is the buffer at entry with these bytes put in.
+#![tactic(auto)]
+
 pub mod codes;
 pub mod numbers;
 pub mod replies;

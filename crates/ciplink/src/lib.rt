@@ -1,4 +1,6 @@
 // The C entry points; ciplink.h declares them. A slice of bytes passes as a pointer and a length, a slice of rows as a pointer and a count of rows.
+#![tactic(auto)]
+
 ghost use Rattle.std.specs.Prelude.{◌≡◌, true, ◌+◌, ◌≤◌, length, get_or};
 ghost use Rattle.laws.specs.Pick.{pick};
 ghost use Rattle.definition.specs.Reply.{room};

@@ -1,5 +1,7 @@
 // Point 3 on whole lists of messages and other events, and document 02's rows of masked writes: the statements in specs/, their proofs in proofs/.
 // The code is one function, for what the type of a slice adds to a statement.
+#![tactic(auto)]
+
 ghost use Rattle.definition.specs.Entry.{entry};
 ghost use Rattle.model.specs.Tables.{tables_of, flags_of};
 ghost use Rattle.logix.specs.Entering.{Enters};

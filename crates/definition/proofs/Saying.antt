@@ -215,7 +215,7 @@ module _ (t : Tables) (memory : ℕ) (b : Breach) (e : breach t memory ≡ some 
     alias_no_mark = rule (λ c s. s.alias_no_mark) (omega (arith, leb-false));
     too_many = rule (λ c s. s.too_many) (search first_over depth 9);
     access_high = rule (λ c s. s.access_high) (omega (arith, leb-false));
-    name_length = rule (λ c s. s.name-length) (search (none_or_long, none_or_long_other));
+    name_length = rule (λ c s. s.name_length) (search (none_or_long, none_or_long_other));
     name_byte = rule (λ c s. s.name_byte) (search odd_byte);
     has_same_name =
         rule (λ c s. s.has_same_name) (

@@ -145,16 +145,16 @@ close_keeps n limit rs e = pick_all (Keeps n) (leb (length (envelope_reply rs.re
 
 module _ (dispatch : Dispatcher) (n : ℕ)
     (keeps : (memory message : List ℕ) (limit : ℕ) → length memory ≡ n → length (dispatch memory message limit).memory ≡ n) where
-  run_keeps : (limit used : ℕ) (parts : List (List ℕ)) (memory : List ℕ) → length memory ≡ n
+  run_keeps : (limit : ℕ) (parts : List (List ℕ)) (used : ℕ) (memory : List ℕ) → length memory ≡ n
       → length (run_parts dispatch limit used parts memory).memory ≡ n
   unfolding run_parts part_answer
-  run_keeps limit used [] memory e = e
-  run_keeps limit used (p ∷ rest) memory e =
-      run_keeps limit _ rest _ (pick_all (Keeps n) (eqb (get_or p 0 0) envelope_service) e (keeps memory p _ e))
+  run_keeps limit [] used memory e = e
+  run_keeps limit (p ∷ rest) used memory e =
+      run_keeps limit rest _ _ (pick_all (Keeps n) (eqb (get_or p 0 0) envelope_service) e (keeps memory p _ e))
 
   parts_keep : (memory : List ℕ) (parts : Option (List (List ℕ))) (limit : ℕ) → length memory ≡ n → Keeps n (answer_parts dispatch memory parts limit)
   parts_keep memory none limit e = e
-  parts_keep memory (some parts) limit e = close_keeps n limit _ (run_keeps limit (6 + 2 * length parts) parts memory e)
+  parts_keep memory (some parts) limit e = close_keeps n limit _ (run_keeps limit parts (6 + 2 * length parts) memory e)
 
   pub envelope_keeps : (f : Flags) (memory body : List ℕ) (limit : ℕ) → length memory ≡ n → length (envelope f dispatch memory body limit).memory ≡ n
   unfolding envelope

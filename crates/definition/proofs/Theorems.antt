@@ -7,6 +7,7 @@ use mathlib.Core.Bool.{Bool, true, false}
 use mathlib.Core.List.{List, [], ◌∷◌}
 use mathlib.Core.Option.{Option, none, some}
 use Prim.Native.Nat.{ℕ, zero, suc, ◌+◌, ◌-◌, ◌*◌, ◌≤◌, ◌<◌}
+use lib.Bits.{bit_and, bit_or}
 use native.Mathlib.Omega.{arith}
 use lib.Dec.{ltb, leb, eqb}
 use lib.ListN.{length, get_or, drop}
@@ -155,7 +156,12 @@ masked_at_any_width (b ∷ bs) [] ands p q = absurd (omega arith)
 masked_at_any_width (b ∷ bs) (o ∷ os) [] p q = absurd (omega arith)
 masked_at_any_width (b ∷ bs) (o ∷ os) (n ∷ ns) p q =
     let rest = masked_at_any_width bs os ns (omega arith) (omega arith) in
-    (ap suc rest.0, λ i. elim i [ zero ↦ λ h. refl | suc j ↦ λ h. rest.1 j (omega arith) ])
+    (
+      ap suc rest.0,
+      λ i. elim i as (λ k. k < length (b ∷ bs)
+          → get_or (masked (b ∷ bs) (o ∷ os) (n ∷ ns)) k 0 ≡ bit_and (bit_or (get_or (b ∷ bs) k 0) (get_or (o ∷ os) k 0)) (get_or (n ∷ ns) k 0))
+          [ zero ↦ λ h. refl | suc j ↦ λ h. rest.1 j (omega arith) ],
+    )
 
 -- the sizes stand in two short lists, each tried whole
 pub element_sizes : ElementSizes

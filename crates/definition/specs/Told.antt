@@ -108,7 +108,7 @@ module _ (t : Tables) (memory : ℕ) (b : Breach) where
     pub too_many : b.rule ≡ 101 → b.row ≡ limit_of b.table
     pub access_high : b.rule ≡ 102 → 3 < access_of b.table told_row
     -- T2: a name of no bytes, or of more than 40 that count; a byte of it below 0x20 or above 0x7E; the same name, in one scope unless they are programs
-    pub name_length_lem : b.rule ≡ 201 → (length (name_of t b.table told_row) ≡ 0) ⊎ (40 < length (counted_of t b.table told_row))
+    pub name_length : b.rule ≡ 201 → (length (name_of t b.table told_row) ≡ 0) ⊎ (40 < length (counted_of t b.table told_row))
     pub name_byte : b.rule ≡ 202 → OddByte (name_of t b.table told_row)
     pub has_same_name : b.rule ≡ 203
         → (same_name (name_of t b.other_table clash_row) (name_of t b.table told_row) ≡ true)

@@ -1,6 +1,6 @@
 -- The search for the least key not below a bound finds the next of the sorted list, and behind it the bound is its key plus one.
 -- Assumes nothing.
-use mathlib.Core.Path.{◌≡◌, refl, ap, ◌∙◌}
+use mathlib.Core.Path.{◌≡◌, refl, sym, ap, subst, ◌∙◌}
 use mathlib.Core.List.{List, [], ◌∷◌, ◌++◌}
 use mathlib.Core.Option.{Option, none, some}
 use Prim.Native.Nat.{ℕ, suc, ◌≤◌, ◌<◌}
@@ -55,13 +55,13 @@ module _ {A : Type 0} (key : A → ℕ) where
   from_step bound (y ∷ ys) x o h =
       by_test (leb bound (key y))
       (λ q. let same : x ≡ y = cc (rw q at h) in
-      rw (
+      subst (λ z. from key bound (y ∷ ys) ≡ z ∷ from key (suc (key z)) (y ∷ ys)) (sym same)
+      (rw (
         q,
-        same,
-        lt-leb (suc (key y)) (key y) (omega arith),
         after_all bound (omega (arith, leb-true bound (key y) q)),
+        lt-leb (suc (key y)) (key y) (omega arith),
         after_all (suc (key y)) (omega arith),
-      ))
+      )))
       (λ q. let k : head_of (from key bound ys) ≡ some x = rw q at h in
       rw (
         q,

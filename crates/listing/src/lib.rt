@@ -1,4 +1,6 @@
 // Attribute lists, symbol pages and template reads.
+#![tactic(auto)]
+
 pub mod attributes;
 pub mod entries;
 pub mod pages;

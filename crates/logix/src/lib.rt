@@ -1,4 +1,6 @@
 // The dispatcher of requests, in mutual recursion with the handler of an envelope of requests.
+#![tactic(auto)]
+
 pub mod entry;
 pub mod parts;
 

@@ -1,4 +1,6 @@
 // The data model: types, table rows, lookups, the next symbol by its ID, and what a resolved path aims at.
+#![tactic(auto)]
+
 pub mod columns;
 pub mod least;
 pub mod lookup;

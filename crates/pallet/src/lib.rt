@@ -1,4 +1,6 @@
 // The pallet bench of document 01, for the programs that run it: its tables, its tag memory, and a message to its controller.
+#![tactic(auto)]
+
 ghost use Rattle.definition.specs.Entry.{entry as entry_of};
 ghost use Rattle.definition.specs.Pallet.{pallet, pallet_flags};
 ghost use Rattle.logix.specs.Entering.{Enters};

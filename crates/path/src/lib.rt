@@ -1,5 +1,7 @@
 // Decoding request paths: segments by a table of their first bytes, whole paths, requests, tag paths and program names.
 // A segment is decoded in the order of CIP Volume 1: its type (`by_entry`), then its format, then its value with its pad (`logical_at`, `value_at`).
+#![tactic(auto)]
+
 ghost use Rattle.std.specs.Prelude.{◌≡◌, true, false, ◌+◌, ◌*◌, ◌≤◌, length};
 ghost use Rattle.laws.specs.Pick.{is_some};
 ghost use Rattle.definition.specs.Bytes.{part};

@@ -1,5 +1,7 @@
 // Reads of a resolved target in tag memory: the fields of a request, plain (0x4C) or fragmented (0x52), and one read for both: whether it is granted, how
 // much of what is due fits, and the reply.
+#![tactic(auto)]
+
 pub mod bits;
 
 ghost use Rattle.std.specs.Prelude.{◌≡◌, false, [], ◌++◌, ◌+◌, ◌≤◌, length};

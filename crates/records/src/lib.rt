@@ -2,6 +2,8 @@
 // The borrow checker covers no function over a slice of structs, so those over `&[Tag]` and `&mut [Tag]` stay small and
 // are proved by a walk of their code, with a promise on the records and on the rows that they mean. A function that takes
 // a `Tag` by value is covered: so are the tests and the answers of the two lookups.
+#![tactic(auto)]
+
 ghost use Rattle.std.specs.Prelude.{◌≡◌, [], ◌<◌, min, length, set};
 ghost use Rattle.std.proofs.Math.Option.{none};
 ghost use Rattle.definition.specs.Lookup.{tag_in, id_in};

@@ -1,4 +1,6 @@
 // From a decoded tag path to its target: the tag, the moves behind it, and whether a service may use it.
+#![tactic(auto)]
+
 use cip::Status;
 use model::columns::{NO_BIT, STRUCTURE_AOI, TAG_ACCESS, TAG_ELEMENTS, TAG_OFFSET, TAG_TYPE};
 use model::{Flags, Target};

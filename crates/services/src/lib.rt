@@ -1,4 +1,6 @@
 // Which service answers a request that is no envelope: items 9 to 20 of document 01, in their order.
+#![tactic(auto)]
+
 use cip::Status;
 use cip::codes::{ATTRIBUTE_LIST, ROUTER_CLASS, SYMBOL_CLASS, SYMBOL_PAGE, TEMPLATE_CLASS};
 use model::Flags;

@@ -1,5 +1,7 @@
 // Prints what is loaded: a line of counts, then a line for each tag and for each other symbol, its fields parted by tabs.
 // What is written is tested and not proved. No function asks anything of its caller: a row that is not there has no line.
+#![tactic(auto)]
+
 mod words;
 
 use cip::numbers::{long, wide};

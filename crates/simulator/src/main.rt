@@ -1,5 +1,7 @@
 // The simulated controller as a program: requests as lines of hex on standard input, replies as hex on standard output.
 // Without a file it serves the pallet bench of document 01, with one the table image in it.
+#![tactic(auto)]
+
 mod bench;
 mod help;
 mod image;

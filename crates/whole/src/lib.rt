@@ -1,5 +1,7 @@
 // The whole read: a continued read done by the program itself, until all of what is selected is joined. The whole list of a scope's
 // symbols is done alike in `lists`.
+#![tactic(auto)]
+
 pub mod joins;
 pub mod lists;
 pub mod pages;

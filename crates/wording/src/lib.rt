@@ -1,5 +1,7 @@
 // Says in one line where a table set breaks a rule: TABLE, row N "NAME": WORDS.
 // What is written is tested and not proved. No function asks anything of its caller: a row that is not there has no name.
+#![tactic(auto)]
+
 pub mod name;
 pub mod out;
 mod words;

@@ -1,4 +1,6 @@
 // The worked examples of document 02's requests, a line each: what is asked, and what is answered.
+#![tactic(auto)]
+
 mod asked;
 mod clicks;
 mod hex;
