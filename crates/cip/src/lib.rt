@@ -18,7 +18,7 @@ ghost use Rattle.std.specs.Int.Bits.{bit_or};
 const REPLY_BIT: u8 = 0x80;
 
 /// The statuses of document 01's items 5 to 20.
-#[derive(Drop)]
+#[derive(Clone, Copy)]
 pub enum Status {
     Success,
     NoElements,

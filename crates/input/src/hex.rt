@@ -8,7 +8,7 @@ ghost use Rattle.input.specs.Lines.{is_stop, tenfold_of, Capped, ReadsLine};
 const USUAL_LIMIT: usize = 500;
 
 /// What keeps a line from being a request.
-#[derive(Drop)]
+#[derive(Clone, Copy)]
 pub enum Fault {
     Digit,
     Odd,
@@ -18,7 +18,7 @@ pub enum Fault {
 }
 
 /// What a line asks: nothing, a request (its limit, and how many bytes it has), or it is wrong.
-#[derive(Drop)]
+#[derive(Clone, Copy)]
 pub enum Line {
     Empty,
     Request(usize, usize),

@@ -6,7 +6,7 @@ ghost use Rattle.input.specs.Text.{up_to, end_after, left_after};
 
 /// How far the input is read: where the unfinished line begins or how many of its bytes are at the buffer's start, its
 /// number, whether it is the rest of a line that was too long, and whether more may come.
-#[derive(Drop)]
+#[derive(Clone, Copy)]
 pub struct Cursor {
     pub at: usize,
     pub line: u64,

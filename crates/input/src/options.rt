@@ -4,7 +4,7 @@ ghost use Rattle.laws.specs.Zip.{agree};
 ghost use Rattle.input.specs.Options.{is_dashed, option_of, word_of, first_of, refused_in, file_in, taken_by};
 
 /// What one word is.
-#[derive(Drop)]
+#[derive(Clone, Copy)]
 pub enum Argument {
     Help,
     Numbers,
@@ -19,7 +19,7 @@ pub enum Argument {
 }
 
 /// What the words ask for; they are counted from 1.
-#[derive(Drop)]
+#[derive(Clone, Copy)]
 pub struct Options {
     pub help: bool,
     pub numbers: bool,

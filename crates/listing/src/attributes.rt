@@ -28,7 +28,7 @@ const UNKNOWN: u16 = 0x0014;
 const FIRST_PROGRAM: u16 = 0x5AD0;
 
 /// What attributes are asked of: a structure by its handle, members, template length and size; a symbol that is named as a program, or any other.
-#[derive(Drop)]
+#[derive(Clone, Copy)]
 pub enum Described {
     Structure(u32, u32, u32, u32),
     Program(usize),
@@ -36,7 +36,7 @@ pub enum Described {
 }
 
 /// How many numbers a list has; it is missing where one of them is.
-#[derive(Drop)]
+#[derive(Clone, Copy)]
 pub enum Count {
     Of(u16),
     Missing,

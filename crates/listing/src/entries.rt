@@ -12,7 +12,7 @@ use crate::values::Value;
 use cip::numbers;
 
 /// A symbol's attributes but its name, as a page sends them.
-#[derive(Drop)]
+#[derive(Clone, Copy)]
 pub struct Symbol {
     pub id: u32,
     pub kind: u32,

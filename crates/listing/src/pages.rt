@@ -21,7 +21,7 @@ use model::columns::{
 use model::least::Next;
 
 /// A step of a page: where the entries end, the least ID of the next one and the tag to try first; an entry that does not fit; nothing due.
-#[derive(Drop)]
+#[derive(Clone, Copy)]
 pub enum Step {
     More(usize, u64, usize),
     Full,

@@ -14,14 +14,14 @@ use model::lookup::Found;
 use path::{Object, Segment};
 
 /// Where a page starts: a scope and the start ID; or a path that no page has.
-#[derive(Drop)]
+#[derive(Clone, Copy)]
 pub enum Begin {
     From(u32, u32),
     Unknown,
 }
 
 /// What a path starts with: a name by its start and length and where the next segment starts, or another segment.
-#[derive(Drop)]
+#[derive(Clone, Copy)]
 enum First {
     Name(usize, usize, usize),
     Other,

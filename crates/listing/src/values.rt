@@ -7,7 +7,7 @@ ghost use Rattle.listing.specs.Values.{value_bytes, reference};
 
 /// An attribute's value by its layout, but for the three lengths: `put_lengths` takes their array, since the borrow checker
 /// does not cover an enum that holds one.
-#[derive(Drop)]
+#[derive(Clone, Copy)]
 pub enum Value {
     Byte(u8),
     Short(u16),

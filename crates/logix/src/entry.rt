@@ -14,7 +14,7 @@ use model::Flags;
 const MOST: usize = 65535;
 
 /// Why a message gets no reply; nothing was changed.
-#[derive(Drop)]
+#[derive(Clone, Copy)]
 pub enum Refusal {
     RequestTooLong,
     LimitTooLarge,
@@ -34,7 +34,7 @@ pub fn number_of(why: Refusal) -> u64
     }
 }
 
-#[derive(Drop)]
+#[derive(Clone, Copy)]
 pub enum Outcome {
     Reply(usize),
     Refused(Refusal),

@@ -23,7 +23,7 @@ pub const OFFSETS: usize = 6;
 const COUNT: usize = 4;
 
 /// What one part came to: its reply's length, and whether its status is 0.
-#[derive(Drop)]
+#[derive(Clone, Copy)]
 pub struct PartReply {
     pub len: usize,
     pub fine: bool,

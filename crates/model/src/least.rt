@@ -6,14 +6,14 @@ use crate::columns::{OTHER_ID, OTHER_SCOPE, TAG_ID, TAG_SCOPE};
 use cip::numbers;
 
 /// A row's place and its ID.
-#[derive(Drop)]
+#[derive(Clone, Copy)]
 pub enum Least {
     Of(usize, u32),
     Empty,
 }
 
 /// The next symbol: a tag or another symbol, by its place and ID.
-#[derive(Drop)]
+#[derive(Clone, Copy)]
 pub enum Next {
     Tag(usize, u32),
     Other(usize, u32),

@@ -8,7 +8,7 @@ pub mod shapes;
 pub mod types;
 
 /// What a controller takes; micro800 turns the first two off.
-#[derive(Drop)]
+#[derive(Clone, Copy)]
 pub struct Flags {
     pub multi_service: bool,
     pub instance_ids: bool,
@@ -18,7 +18,7 @@ pub struct Flags {
 
 /// A place in tag memory: the tag's index, the first byte, the type word, the bytes of one element,
 /// the elements from there to the array's end, the bit (8: none), the largest access on the path.
-#[derive(Drop)]
+#[derive(Clone, Copy)]
 pub struct Target {
     pub tag: usize,
     pub start: usize,

@@ -13,7 +13,7 @@ use crate::columns::{
 use cip::numbers;
 
 /// The place of a row in its table.
-#[derive(Drop)]
+#[derive(Clone, Copy)]
 pub enum Found {
     At(usize),
     Nothing,

@@ -27,7 +27,7 @@ pub mod reader;
 pub mod table;
 
 /// A segment with the position of the next one; a symbol's name by its start and length.
-#[derive(Drop)]
+#[derive(Clone, Copy)]
 pub enum Segment {
     Port(usize),
     Class(u32, usize),
@@ -39,14 +39,14 @@ pub enum Segment {
 }
 
 /// The value of a logical segment and the position after it.
-#[derive(Drop)]
+#[derive(Clone, Copy)]
 enum Value {
     Of(u32, usize),
     Cut,
 }
 
 /// A part of the path: its start, its length, and the position after it and its pad.
-#[derive(Drop)]
+#[derive(Clone, Copy)]
 enum Part {
     From(usize, usize, usize),
     Short,
@@ -231,7 +231,7 @@ pub fn symbol_name(path: &[u8], start: usize, n: usize) -> &[u8]
 }
 
 /// A whole path: the number of its segments, or invalid.
-#[derive(Drop)]
+#[derive(Clone, Copy)]
 pub enum Check {
     Segments(usize),
     Bad,
@@ -254,7 +254,7 @@ pub fn check_path(path: &[u8]) -> Check
 }
 
 /// A request: the number of bytes of its path, which starts at 2; the data follows it.
-#[derive(Drop)]
+#[derive(Clone, Copy)]
 pub enum Split {
     Path(usize),
     Malformed,
@@ -382,7 +382,7 @@ pub fn is_tag_path(path: &[u8], at: usize) -> bool
 }
 
 /// A path's class and instance, and where what follows them starts.
-#[derive(Drop)]
+#[derive(Clone, Copy)]
 pub enum Object {
     Of(u32, u32, usize),
     Nothing,

@@ -7,35 +7,35 @@ ghost use Rattle.path.specs.Paths.{Decoded, check_of};
 ghost use Rattle.path.specs.Nth.{Nth, Reached};
 
 /// A path and a position in it, or past its end.
-#[derive(Drop)]
+#[derive(Clone, Copy)]
 pub struct Reader<'a> {
     pub path: &'a [u8],
     pub at: usize,
 }
 
 /// A byte and the position behind it; `Cut` where the path ends before it.
-#[derive(Drop)]
+#[derive(Clone, Copy)]
 pub enum Byte {
     Of(u8, usize),
     Cut,
 }
 
 /// The same of 16 bits.
-#[derive(Drop)]
+#[derive(Clone, Copy)]
 pub enum Word {
     Of(u16, usize),
     Cut,
 }
 
 /// The same of 32 bits.
-#[derive(Drop)]
+#[derive(Clone, Copy)]
 pub enum Long {
     Of(u32, usize),
     Cut,
 }
 
 /// A part of the path: its start, and the position behind it. An enum holds no reference: `symbol_name` gives a part's bytes.
-#[derive(Drop)]
+#[derive(Clone, Copy)]
 pub enum Taken {
     From(usize, usize),
     Cut,

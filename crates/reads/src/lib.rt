@@ -23,21 +23,21 @@ use model::columns::NO_BIT;
 use model::types::FIRST_STRUCTURE;
 
 /// What a read is asked for: elements and offset, or data is missing.
-#[derive(Drop)]
+#[derive(Clone, Copy)]
 pub enum ReadFields {
     Of(usize, usize),
     Short,
 }
 
 /// Whether a read may send something, offset aside.
-#[derive(Drop)]
+#[derive(Clone, Copy)]
 pub enum Grant {
     Granted,
     Refused(Status),
 }
 
 /// What a reply goes by: the service, the offset into what is due, and the limit.
-#[derive(Drop)]
+#[derive(Clone, Copy)]
 struct Sending {
     service: u8,
     offset: usize,

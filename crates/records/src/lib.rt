@@ -18,7 +18,7 @@ use model::lookup::Found;
 
 /// A tag: its scope (0 is the controller, k + 1 program k), its name's place in the store of tag names, its instance ID,
 /// its type word, its array lengths (nonzero first), its elements, its access, its alias mark and its place in tag memory.
-#[derive(Drop)]
+#[derive(Clone, Copy)]
 pub struct Tag {
     pub scope: u32,
     pub name_start: u32,
@@ -34,7 +34,7 @@ pub struct Tag {
 
 /// What a lookup found: the record's place among those lent, and the record; where there is none, a record of zeros.
 /// (An enum that holds the record would hold its array of lengths, which the borrow checker does not cover.)
-#[derive(Drop)]
+#[derive(Clone, Copy)]
 pub struct Lookup {
     pub at: Found,
     pub tag: Tag,

@@ -14,7 +14,7 @@ use cip::numbers::wide;
 use path::Segment;
 
 /// Consecutive elements: how many, the last three values, and where what follows starts.
-#[derive(Drop)]
+#[derive(Clone, Copy)]
 pub struct Run {
     pub count: usize,
     pub first: u32,
@@ -24,7 +24,7 @@ pub struct Run {
 }
 
 /// An element's value and where what follows starts.
-#[derive(Drop)]
+#[derive(Clone, Copy)]
 enum Element {
     Of(u32, usize),
     Other,

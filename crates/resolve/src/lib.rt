@@ -21,7 +21,7 @@ ghost use Rattle.resolve.specs.Places.{place_of, moved_of};
 ghost use Rattle.resolve.specs.Answers.{ResolvesTo, Resolves, Targets, Aims, whole_row, closed_to, denied_to, refused_to};
 
 /// A tag path's target, or the status that turns it away.
-#[derive(Drop)]
+#[derive(Clone, Copy)]
 pub enum Resolved {
     Found(Target),
     Turned(Status),

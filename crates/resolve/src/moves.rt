@@ -15,7 +15,7 @@ use model::Flags;
 use path::Segment;
 
 /// What a move comes to, with where what follows it starts.
-#[derive(Drop)]
+#[derive(Clone, Copy)]
 pub struct Stepped {
     pub moved: Moved,
     pub next: usize,

@@ -7,7 +7,7 @@ ghost use Rattle.resolve.specs.Places.{place_of, moved_of};
 use cip::Status;
 
 /// The lengths stand first, zeros behind them; all are 0 for no array.
-#[derive(Drop)]
+#[derive(Clone, Copy)]
 pub struct Place {
     pub tag: usize,
     pub start: usize,
@@ -19,7 +19,7 @@ pub struct Place {
 }
 
 /// Whether a move is made, or the status that turns it away.
-#[derive(Drop)]
+#[derive(Clone, Copy)]
 pub enum Way {
     Made,
     Turned(Status),
@@ -27,7 +27,7 @@ pub enum Way {
 
 /// What a move comes to: the place that it leads to, or the one that it was turned away from.
 /// (An enum that holds the place would hold its array of lengths, which the borrow checker does not cover.)
-#[derive(Drop)]
+#[derive(Clone, Copy)]
 pub struct Moved {
     pub turn: Way,
     pub place: Place,

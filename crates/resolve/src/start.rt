@@ -14,14 +14,14 @@ use model::lookup::Found;
 use path::Segment;
 
 /// The tag's index and where what follows starts, or the status that turns the path away.
-#[derive(Drop)]
+#[derive(Clone, Copy)]
 pub enum Start {
     At(usize, usize),
     Turned(Status),
 }
 
 /// A program's name, as a part of the path, and where what follows starts.
-#[derive(Drop)]
+#[derive(Clone, Copy)]
 enum Prefix {
     Program(usize, usize, usize),
     Nothing,

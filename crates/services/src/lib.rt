@@ -21,7 +21,7 @@ ghost use Rattle.services.specs.Answers.{OnPath};
 ghost use Rattle.services.specs.Services.{own_of, object_is};
 
 /// An object's own service, and its instance.
-#[derive(Drop)]
+#[derive(Clone, Copy)]
 pub enum Own {
     SymbolList(u32),
     StructureList(u32),

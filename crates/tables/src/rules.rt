@@ -19,7 +19,7 @@ use rows::{pair, row};
 
 /// Where a table set breaks a rule: the rule's number, the table and the row that breaks it, and the row that it clashes with, if it does with one.
 /// Tables are numbered: 1 structures, 2 members, 3 programs, 4 tags, 5 other symbols; 6 is tag memory, 7 the template store, 0 none.
-#[derive(Drop)]
+#[derive(Clone, Copy)]
 pub struct Breach {
     pub rule: u32,
     pub table: u32,
@@ -28,7 +28,7 @@ pub struct Breach {
     pub other: usize,
 }
 
-#[derive(Drop)]
+#[derive(Clone, Copy)]
 pub enum Told {
     Fine,
     Broken(Breach),
@@ -391,7 +391,7 @@ pub fn others_of(
 }
 
 /// Rows of a table, from one up to another.
-#[derive(Drop)]
+#[derive(Clone, Copy)]
 pub struct Span {
     pub from: usize,
     pub upto: usize,

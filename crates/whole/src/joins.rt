@@ -13,7 +13,7 @@ ghost use Rattle.whole.specs.Parts.{chosen_bytes, last_of, Sendable, Joinable, B
 use model::Flags;
 
 /// How many bytes are received after a reply, and whether more are due.
-#[derive(Drop)]
+#[derive(Clone, Copy)]
 pub enum Turn {
     Last(usize),
     More(usize),

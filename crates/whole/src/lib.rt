@@ -18,7 +18,7 @@ use model::Flags;
 use sizes::Size;
 
 /// What a whole read or a whole list comes to.
-#[derive(Drop)]
+#[derive(Clone, Copy)]
 pub enum Whole {
     /// So many bytes: all that are selected, or the entries of all symbols.
     Joined(usize),

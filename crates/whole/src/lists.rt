@@ -13,14 +13,14 @@ use model::Flags;
 use model::lookup::Found;
 
 /// A scope: 0 is the controller's, a program's is its position plus one.
-#[derive(Drop)]
+#[derive(Clone, Copy)]
 enum Scope {
     In(u32),
     Unknown,
 }
 
 /// The scope and the number of attributes that a page accepts; nothing where it turns one of them away.
-#[derive(Drop)]
+#[derive(Clone, Copy)]
 enum Asked {
     Of(u32, usize),
     Nothing,

@@ -11,7 +11,7 @@ use model::{Flags, Target};
 use reads::Grant;
 
 /// So many bytes behind a type header of so many; or nothing is selected.
-#[derive(Drop)]
+#[derive(Clone, Copy)]
 pub enum Size {
     Of(usize, usize),
     Nothing,

@@ -13,14 +13,14 @@ use listing::pages::Step;
 use model::least::Next;
 
 /// All bytes of the entries, each of which a page can bring; or one that no page can.
-#[derive(Drop)]
+#[derive(Clone, Copy)]
 pub enum Measure {
     Total(usize),
     Narrow,
 }
 
 /// Where the next page starts; or nothing is due.
-#[derive(Drop)]
+#[derive(Clone, Copy)]
 pub enum PageStart {
     At(u32),
     Nowhere,

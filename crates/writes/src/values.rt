@@ -11,7 +11,7 @@ use model::columns::NO_BIT;
 use model::types::FIRST_STRUCTURE;
 
 /// A write's fields, the value behind them aside.
-#[derive(Drop)]
+#[derive(Clone, Copy)]
 pub struct Fields {
     pub ty: u32,
     pub handle: u32,
