@@ -46,6 +46,8 @@ module _ (scope : ℕ) (attributes : List ℕ) where
     nearer_tied k (Of j id) (some e) (tied l q) h =
         let same : ltb (id_of (entry_at make rows k)) (id_of (entry_at make rows j)) ≡ ltb (tag_id (get_or rows k [])) id = cc (id_at k, q) in
         by_test (ltb (tag_id (get_or rows k [])) id) (λ t. rw (same, t) (tied h (id_at k))) (λ t. rw (same, t) (tied l q))
+    nearer_tied k (Of j id) none x4 h = elim x4 [ ]
+    nearer_tied k Empty (some e) x5 h = elim x5 [ ]
 
     row_tied : (k : ℕ) (rest : Least) (o : Option Entry) → Tied make rows rest o → k < length rows
         → Tied make rows (pick (ltb (tag_id (get_or rows k [])) bound) rest (nearer_id k (tag_id (get_or rows k [])) rest))
@@ -100,6 +102,14 @@ module _ (scope : ℕ) (attributes : List ℕ) where
     both_tied (Of i id) (Of j k) (some e) (some u) (tied l q) (tied m p) h =
         let same : ltb (id_of (entry_at (tag_symbol t) t.tags i)) (id_of (entry_at (other_symbol t) t.others j)) ≡ ltb id k = cc (q, p) in
         by_test (ltb id k) (λ b. rw b (tag_due l q (due_step e id q (rw (same, b) at h)))) (λ b. rw b (other_due m p (due_step u k p (rw (same, b) at h))))
+    both_tied (Of i id) (Of j k) none y x12 _ h = elim x12 [ ]
+    both_tied (Of i id) (Of j k) (some e) none _ x17 h = elim x17 [ ]
+    both_tied (Of i id) Empty none y x13 _ h = elim x13 [ ]
+    both_tied (Of i id) Empty (some e) (some u) _ x18 h = elim x18 [ ]
+    both_tied Empty (Of j k) none none _ x17 h = elim x17 [ ]
+    both_tied Empty (Of j k) (some e) y x14 _ h = elim x14 [ ]
+    both_tied Empty Empty none (some u) _ x18 h = elim x18 [ ]
+    both_tied Empty Empty (some e) y x15 _ h = elim x15 [ ]
 
     pub next_due : NextDue t bound (next_in t.tags t.others scope bound)
     unfolding tag_symbol other_symbol

@@ -8,5 +8,3 @@ pub mod Branches
 pub mod Counts
 pub mod Reaching
 pub mod Cursors
-pub mod Thin
-pub mod Callees

@@ -1,0 +1,15 @@
+-- No symbol before i has that scope and ID, so the search of the rest is the search of all.
+use Rattle.definition.specs.Lookup.{id_in}
+use Rattle.model.proofs.Seeking.{seeks}
+use Rattle.model.proofs.lookup.find_other_id.Goals as goal
+
+pub returns-then-other_has_id : goal.returns-then-other_has_id
+unfolding id_in
+returns-then-other_has_id c = search seeks
+
+pub loop-i-preserved : goal.loop-i-preserved
+loop-i-preserved c = search seeks
+
+pub returns : goal.returns
+unfolding id_in
+returns c = search seeks

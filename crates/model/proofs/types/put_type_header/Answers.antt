@@ -1,0 +1,9 @@
+-- Atomic or a structure; the writes lie next to each other and make up the header, as a handle's low 16 bits give the same bytes.
+use Rattle.model.proofs.Laws.{headers}
+use Rattle.model.proofs.types.put_type_header.Goals as goal
+
+pub returns-then-ty-lt-FIRST_STRUCTURE : goal.returns-then-ty-lt-FIRST_STRUCTURE
+returns-then-ty-lt-FIRST_STRUCTURE c = search headers
+
+pub returns : goal.returns
+returns c = search headers

@@ -1,0 +1,13 @@
+-- Whether n bytes stand in the path is asked first, so their end is inside it, and either answer is the statement's arm.
+use borrow.Author.Rules.{rules}
+use Rattle.path.proofs.Cursors.{reads}
+use Rattle.path.proofs.reader.taken_at.Goals as goal
+
+pub overflow_add-result : goal.overflow_add-result
+overflow_add-result c = search (rules, reads)
+
+pub returns-then-holds : goal.returns-then-holds
+returns-then-holds c = search reads
+
+pub returns : goal.returns
+returns c = search reads
