@@ -1,0 +1,19 @@
+-- The definition's refusals, offset aside, in its order; a granted read asks for no more elements than the target has.
+use Rattle.reads.proofs.Reading.{granted-few, read_granted, read_refused}
+use native.Mathlib.Omega.{arith}
+use Rattle.reads.proofs.read.Goals as goal
+
+pub send_selected-requires : goal.send_selected-requires
+send_selected-requires c = (
+      c.requires.0,
+      granted-few c.args.g.bit c.args.g.count _ _ c.requires.0.some_elements c.ask_of.ensures c.in-Granted.is,
+      omega arith,
+    )
+
+pub returns-in-Granted : goal.returns-in-Granted
+returns-in-Granted c =
+    read_granted _ _ _ _ _ _ _ _ _ _ _ c.ask_of.ensures c.in-Granted.is
+    c.send_selected.ensures
+
+pub returns-in-Refused : goal.returns-in-Refused
+returns-in-Refused c = read_refused _ _ _ _ _ _ _ _ _ _ _ c.ask_of.ensures _ c.in-Refused.is c.fail.ensures
