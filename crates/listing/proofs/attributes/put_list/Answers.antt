@@ -16,28 +16,28 @@ pub put_entry-used-requires : goal.put_entry-used-requires
 put_entry-used-requires c =
     omega (
       arith,
-      c.loop-i.inv.3,
+      c.loop-i.invariant.3,
       entries-room c.args.o c.args.body.now c.loop-i.i c.u16_at-number.result c.object_value.result
           c.u16_at-number.ensures c.object_value.ensures c.args.n c.args.at c.loop-i.used
-          (length c.args.buf.now) c.loop-i-test.taken c.loop-i.inv.1 c.requires.1,
+          (length c.args.buf.now) c.loop-i-test.true c.loop-i.invariant.1 c.requires.1,
     )
 
 pub overflow_add-used : goal.overflow_add-used
 overflow_add-used c =
     let h = (entries-sum c.args.o c.args.body.now c.loop-i.i c.u16_at-number.result c.object_value.result
     c.u16_at-number.ensures c.object_value.ensures c.args.n c.args.at c.loop-i.used c.put_entry-used.result
-    (length c.args.buf.now) _ _ c.loop-i-test.taken c.loop-i.inv.1 c.requires.1 c.put_entry-used.ensures) in
+    (length c.args.buf.now) _ _ c.loop-i-test.true c.loop-i.invariant.1 c.requires.1 c.put_entry-used.ensures) in
     search rules
 
 pub loop-i-preserved : goal.loop-i-preserved
 loop-i-preserved c = (
   search rules,
   entries_end c.args.o c.args.body.now c.loop-i.i c.u16_at-number.result c.object_value.result c.u16_at-number.ensures
-      c.object_value.ensures _ _ _ _ _ c.loop-i.inv.1 c.put_entry-used.ensures,
+      c.object_value.ensures _ _ _ _ _ c.loop-i.invariant.1 c.put_entry-used.ensures,
   entries-put c.args.o c.args.body.now c.loop-i.i c.u16_at-number.result c.object_value.result
-      c.u16_at-number.ensures c.object_value.ensures c.args.n _ _ _ _ _ _ c.loop-i-test.taken c.loop-i.inv.1
-      c.requires.1 c.loop-i.inv.2 c.put_entry-used.ensures,
-  c.put_entry-used.auto.0 ∙ c.loop-i.inv.3,
+      c.u16_at-number.ensures c.object_value.ensures c.args.n _ _ _ _ _ _ c.loop-i-test.true c.loop-i.invariant.1
+      c.requires.1 c.loop-i.invariant.2 c.put_entry-used.ensures,
+  c.put_entry-used.auto.buf ∙ c.loop-i.invariant.3,
 )
 
 pub returns : goal.returns

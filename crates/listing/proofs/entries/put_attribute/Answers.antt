@@ -9,7 +9,7 @@ put_u16-requires c =
 
 pub copy_into-requires : goal.copy_into-requires
 copy_into-requires c =
-    omega (arith, c.put_u16.auto.0, c.requires, name_length_lem c.args.name.now c.args.s c.args.number c.if-number-eq1.true)
+    omega (arith, c.put_u16.auto.buf, c.requires, name_length_lem c.args.name.now c.args.s c.args.number c.if-number-eq1.true)
 
 pub returns-then-number-eq1 : goal.returns-then-number-eq1
 returns-then-number-eq1 c =

@@ -39,7 +39,7 @@ loop-i-preserved c = (
   attributes_put (made c.args.name.now c.args.s) c.args.body.now c.loop-i.i
       c.u16_at-number.result c.u16_at-number.ensures c.args.n _ _ _ _ _ _ c.loop-i-test.true c.loop-i.invariant.1 c.requires.1
       c.loop-i.invariant.2 c.put_attribute-used.ensures,
-  c.put_attribute-used.auto.0 ∙ c.loop-i.invariant.3,
+  c.put_attribute-used.auto.buf ∙ c.loop-i.invariant.3,
 )
 
 pub returns : goal.returns
