@@ -3,7 +3,6 @@ use mathlib.Core.Path.{refl, sym}
 use native.Mathlib.Omega.{arith}
 use lib.Seq.{length-take-le}
 use Rattle.input.proofs.Joining.{not-joined, no_row, no_length, no_front, halves, row-joined}
-use Rattle.std.proofs.lemmas.Bool.{not_from_true, not_from_false}
 use Rattle.input.proofs.clicks.join.Goals as goal
 
 pub returns-then-at-eq0 : goal.returns-then-at-eq0
@@ -25,7 +24,7 @@ slice_bounds-same-end-3 c = sym (length-take-le _ _ (omega (arith, c.masks_at-at
 pub returns-then-not-same : goal.returns-then-not-same
 returns-then-not-same c =
     not-joined c.args.row.now c.args.next.now (no_front c.args.row.now c.args.next.now _ c.masks_at-at.ensures.0
-    c.if-at-eq0.false c.if-next-row.false _ c.same.ensures (not_from_false _ c.if-not-same.true))
+    c.if-at-eq0.false c.if-next-row.false _ c.same.ensures c.if-not-same.true)
 
 pub join_at-requires : goal.join_at-requires
 join_at-requires c =
@@ -34,4 +33,4 @@ join_at-requires c =
 pub returns : goal.returns
 returns c =
     row-joined c.args.row.now c.args.next.now _ c.masks_at-at.ensures.0 c.if-at-eq0.false c.if-next-row.false _ c.same.ensures _
-    refl _ (not_from_true _ c.if-not-same.false) c.join_at.ensures
+    refl _ c.if-not-same.false c.join_at.ensures

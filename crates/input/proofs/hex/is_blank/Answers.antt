@@ -6,4 +6,4 @@ pub returns-in-32 : goal.returns-in-32
 returns-in-32 c = blank_is _ c.in-32.is
 
 pub returns-in_default : goal.returns-in_default
-returns-in_default c = blank_not _ c.in_default.rest.1
+returns-in_default c = blank_not _ c.in_default.in_default-own.rest.1
