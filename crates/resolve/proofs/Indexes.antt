@@ -26,10 +26,10 @@ both_end : (b : Bool) → both b true ≡ b
 both_end true = refl
 both_end false = refl
 
-counted : (v : Values) (es : List ℕ) → (lead v es).count ≡ v.count + length es
+counted : (es : List ℕ) (v : Values) → (lead v es).count ≡ v.count + length es
 unfolding lead
-counted v [] = omega arith
-counted v (e ∷ es) = counted _ es ∙ omega arith
+counted [] v = omega arith
+counted (e ∷ es) v = counted es _ ∙ omega arith
 
 -- ---- one, two and three indexes
 
@@ -129,7 +129,7 @@ index_is g structures members names es =
     let ns = g.lengths in
     by_test (eqb (length1 ns) 0) (λ t. rw t)
     (λ t.
-    let n : (lead no_values es).count ≡ length es = counted no_values es ∙ zero-add (length es) in
+    let n : (lead no_values es).count ≡ length es = counted es no_values ∙ zero-add (length es) in
     by_test (eqb (length es) (dims_of ns))
     (λ u. let a = agrees ns t es (eqb-true (length es) (dims_of ns) u) in rw (dims_are ns, n, u, a.0, a.1, t))
     (λ u. rw (dims_are ns, n, u, t)))

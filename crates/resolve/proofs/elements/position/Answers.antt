@@ -9,7 +9,7 @@ returns-then-lengths-eq0 c = search chain
 
 pub row-requires : goal.row-requires
 row-requires c =
-    row-second c.args.t1 (values_of c.args.run) c.requires c.if-lengths-eq0.false _
+    row-second c.args.lengths (values_of c.args.run) c.requires c.if-lengths-eq0.false _
     c.if-lengths-eq0-2.true c.wide-then-lengths-eq0-2.ensures
 
 pub returns-then-lengths-eq0-2 : goal.returns-then-lengths-eq0-2
@@ -17,12 +17,12 @@ returns-then-lengths-eq0-2 c = search row_laws
 
 pub row-outer-requires : goal.row-outer-requires
 row-outer-requires c =
-    row_inner c.args.t1 (values_of c.args.run) c.requires c.if-lengths-eq0.false
+    row_inner c.args.lengths (values_of c.args.run) c.requires c.if-lengths-eq0.false
     c.if-lengths-eq0-2.false _ c.wide-2.ensures
 
 pub row-requires-2 : goal.row-requires-2
 row-requires-2 c =
-    row_outer c.args.t1 (values_of c.args.run) c.requires c.if-lengths-eq0.false c.if-lengths-eq0-2.false _
+    row_outer c.args.lengths (values_of c.args.run) c.requires c.if-lengths-eq0.false c.if-lengths-eq0-2.false _
     _ c.wide-2.ensures c.row-outer.ensures
 
 pub returns : goal.returns
