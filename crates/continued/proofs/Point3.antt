@@ -152,7 +152,7 @@ module _ (t : Tables) (f : Flags) (scope : ℕ) (attributes : List ℕ) (accepte
         p.is,
         past_objects t f m 0x55 (object_of p.path) p.path p.body x.limit refl refl,
         p.starts,
-        p.list-is,
+        p.list_is,
         accepted,
       )
 

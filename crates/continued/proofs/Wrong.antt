@@ -84,7 +84,7 @@ ends_early : Refuted (replying (λ r. put r 2 (0 ∷ []))) (row 22 0 ∷ [])
 unfolding computed granted-rows put
 ends_early = (
   (row-asks 0 (lit≤ tt), omega arith, λ r. lit≤ tt, tt),
-  λ d. let z : ◌≡◌ {A = ℕ} 16 40 = ap length (d.last-zero.0 refl) in omega arith,
+  λ d. let z : ◌≡◌ {A = ℕ} 16 40 = ap length (d.last_zero.0 refl) in omega arith,
 )
 
 -- status 0 never
@@ -92,19 +92,19 @@ never_ends : Refuted (replying (λ r. put r 2 (6 ∷ []))) (row 100 0 ∷ [])
 unfolding computed granted-rows put
 never_ends = (
   (row-asks 0 (lit≤ tt), omega arith, λ r. lit≤ tt, tt),
-  λ d. let z : ◌≡◌ {A = ℕ} 6 0 = d.last-zero.1 refl in omega arith,
+  λ d. let z : ◌≡◌ {A = ℕ} 6 0 = d.last_zero.1 refl in omega arith,
 )
 
 -- whole elements only, also where less than one fits: at limit 9 nothing comes
 rounds_all : Refuted (replying (λ r. take (6 + (length r - 6) / 4 * 4) r)) (row 9 0 ∷ [])
 unfolding computed granted-rows
-rounds_all = ((row-asks 0 (lit≤ tt), omega arith, λ r. lit≤ tt, tt), λ d. omega (arith, d.each-brings.0))
+rounds_all = ((row-asks 0 (lit≤ tt), omega arith, λ r. lit≤ tt, tt), λ d. omega (arith, d.each_brings.0))
 
 -- the first fragment, then status 0 with nothing
 gives_up : Refuted (λ s m. replying (λ r. pick (eqb (get_or s.request 10 0) 0) r (0xD2 ∷ 0 ∷ 0 ∷ 0 ∷ 0xC4 ∷ 0 ∷ [])) s m) (row 22 0 ∷ row 22 16 ∷ [])
 unfolding computed granted-rows
 gives_up =
-    ((row-asks 0 (lit≤ tt), omega arith, λ r. lit≤ tt, (row-asks 16 (lit≤ tt), omega arith, λ r. lit≤ tt, tt)), λ d. omega (arith, d.each-brings.0))
+    ((row-asks 0 (lit≤ tt), omega arith, λ r. lit≤ tt, (row-asks 16 (lit≤ tt), omega arith, λ r. lit≤ tt, tt)), λ d. omega (arith, d.each_brings.0))
 
 -- four bytes at a time whatever the limit: too many reads
 crawls : Refuted (λ s m. right (record { request = s.request; limit = 10; buffer = s.buffer }) m) (row 22 0 ∷ row 22 4 ∷ row 22 8 ∷ row 22 12 ∷ [])
@@ -137,7 +137,7 @@ opens_anywhere = (
 -- a 0x4C without a bound on its limit: at limit 6 it brings nothing
 opens_at_6 : Asks rows_path 10 (open_request rows 10) 0 × Undelivered right (opening 6 ∷ [])
 unfolding computed granted-rows
-opens_at_6 = (opening_asks, λ d. omega (arith, d.each-brings.0))
+opens_at_6 = (opening_asks, λ d. omega (arith, d.each_brings.0))
 
 -- ---- pages of the controller's symbols, names and types; the start ID's byte stands at 5
 
@@ -187,7 +187,7 @@ begins_again = (
     λ r. (lit≤ tt, (lit≤ tt, (lit≤ tt, tt))),
     ((1, lit≤ tt, refl, page_asks 3), omega arith, λ r. (lit≤ tt, (lit≤ tt, (lit≤ tt, tt))), tt),
   ),
-  λ d. let z : ◌≡◌ {A = ℕ} 49 37 = ap length ((d.last-zero (lit≤ tt)).0 refl) in omega arith,
+  λ d. let z : ◌≡◌ {A = ℕ} 49 37 = ap length ((d.last_zero (lit≤ tt)).0 refl) in omega arith,
 )
 
 -- status 0 too early
@@ -195,7 +195,7 @@ page_ends_early : RefutedPages (replying (λ r. put r 2 (0 ∷ []))) (page 29 0 
 unfolding computed put
 page_ends_early = (
   (page_asks 0, omega arith, λ r. (lit≤ tt, (lit≤ tt, (lit≤ tt, tt))), tt),
-  λ d. let z : ◌≡◌ {A = ℕ} 25 37 = ap length ((d.last-zero (lit≤ tt)).0 refl) in omega arith,
+  λ d. let z : ◌≡◌ {A = ℕ} 25 37 = ap length ((d.last_zero (lit≤ tt)).0 refl) in omega arith,
 )
 
 -- status 0 never
@@ -203,5 +203,5 @@ page_never_ends : RefutedPages (replying (λ r. put r 2 (6 ∷ []))) (page 100 0
 unfolding computed put
 page_never_ends = (
   (page_asks 0, omega arith, λ r. (lit≤ tt, (lit≤ tt, (lit≤ tt, tt))), tt),
-  λ d. let z : ◌≡◌ {A = ℕ} 6 0 = (d.last-zero (lit≤ tt)).1 refl in omega arith,
+  λ d. let z : ◌≡◌ {A = ℕ} 6 0 = (d.last_zero (lit≤ tt)).1 refl in omega arith,
 )

@@ -234,7 +234,7 @@ module _ (t : Tables) (memory : ℕ) (b : Breach) (e : breach t memory ≡ some 
     type_not_earlier = rule (λ c s. s.type_not_earlier) ((λ i j r f h. (no_type _ _ h, omega arith)), tt);
     not_inside = rule (λ c s. s.not_inside) (omega (arith, leb-false));
     tag_no_type = rule (λ c s. s.tag_no_type) (search no_type);
-    zero-between = rule (λ c s. s.zero-between) (search zero-between);
+    zero_between = rule (λ c s. s.zero_between) (search zero-between);
     elements_wrong = rule (λ c s. s.elements_wrong) ((λ i j r f h. let s = either_fails _ _ h in (eqb-false _ _ s.0, s.1)), tt);
     past_memory = rule (λ c s. s.past_memory) (omega (arith, leb-false));
     shared_byte =

@@ -125,7 +125,7 @@ module _ (t : Tables) (memory : ℕ) (b : Breach) where
         → (structure_size clash_row < member_offset told_row + size_in t.structures (member_type told_row) * max 1 (member_length told_row)) × ItsMember
     -- T5
     pub tag_no_type : b.rule ≡ 501 → NoType (length t.structures) (tag_type told_row)
-    pub zero-between : b.rule ≡ 502 → ZeroBetween told_row
+    pub zero_between : b.rule ≡ 502 → ZeroBetween told_row
     pub elements_wrong : b.rule ≡ 503 → (tag_elements told_row ≢ product (lengths_of told_row)) × (is_bool_array told_row ≡ false)
     -- T6
     pub past_memory : b.rule ≡ 601 → memory < end_in t.structures told_row

@@ -116,7 +116,7 @@ module _ (limit service used : ℕ) (s : Status) (x : List ℕ) (short : has_wor
 
 pub record Filled (t : Tables) (scope : ℕ) (attributes : List ℕ) (start service limit end : ℕ) (old : List ℕ) (used bound : ℕ) (new : List ℕ) : Type 0 where
   pub bytes : List ℕ
-  pub used-is : used ≡ 4 + length bytes
+  pub used_is : used ≡ 4 + length bytes
   pub buffer_is : new ≡ put old 4 bytes
   pub goes_on : filled service (eqb used 4) (end - used) bytes (due t scope attributes bound) ≡ page_reply service (due t scope attributes start) limit
 
@@ -130,7 +130,7 @@ module _ (t : Tables) (scope : ℕ) (attributes : List ℕ) (start service limit
   pub filled_none : end ≡ max 4 limit → Fills 4 start old
   filled_none e =
       let s : end - 4 ≡ limit - 4 = omega arith in
-      record { bytes = []; used-is = refl; buffer_is = sym (put-none old 4); goes_on = rw s (filled_all service limit _) }
+      record { bytes = []; used_is = refl; buffer_is = sym (put-none old 4); goes_on = rw s (filled_all service limit _) }
 
   module _ (used bound : ℕ) (x y : List ℕ) where
     abbrev Steps : Step → Type 0
@@ -144,8 +144,8 @@ module _ (t : Tables) (scope : ℕ) (attributes : List ℕ) (start service limit
     added : {u b n : ℕ} → Fills used bound x → used + 4 ≤ u → end ≤ length old → Steps (More u b n) → Fills u b y
     added {u} {b} {n} f k h (more e q d a l p) = record {
       bytes = f.bytes ++ e.bytes;
-      used-is = simp length-append (omega arith);
-      buffer_is = put_then old x y 4 f.bytes used e.bytes f.buffer_is p f.used-is (omega arith);
+      used_is = simp length-append (omega arith);
+      buffer_is = put_then old x y 4 f.bytes used e.bytes f.buffer_is p f.used_is (omega arith);
       goes_on = rest_is f _ _ d (filled_more service end used f.bytes e (due t scope attributes b) u (omega arith) k a l);
     }
 
@@ -155,7 +155,7 @@ module _ (t : Tables) (scope : ℕ) (attributes : List ℕ) (start service limit
       answered ys e w = rw e at (laid-over limit old x ys f.bytes z r f.buffer_is (omega arith) holds w)
 
       data_are : part x 4 (used - 4) ≡ f.bytes
-      data_are = part_put old x f.bytes used f.buffer_is f.used-is (omega arith)
+      data_are = part_put old x f.bytes used f.buffer_is f.used_is (omega arith)
 
       stopped_full : used ≤ end → Steps Full → Laid limit (stopped service used y) y r z → Answers r z
       stopped_full h (full e es d a p) w = answered _ (rest_is f _ _ d (filled_full service end used f.bytes e es h a)) (rw (p, data_are) at w)

@@ -91,13 +91,13 @@ module _ (t : Tables) (f : Flags) (memory message : List ℕ) (limit : ℕ) (old
     asked = split_request message size (sym is ∙ e)
 
     segments_are : segments path ≡ some asked.path
-    segments_are = rw p asked.segments-are
+    segments_are = rw p asked.segments_are
 
     answer_is : answer t f memory message limit
         ≡ pick (both (eqb service envelope_service) (is_router (object_of asked.path))) (envelope f (part_dispatch t f) memory body limit)
         (plain t f memory service asked.path body limit)
     unfolding answer
-    answer_is = rw (asked.request-is, s, q)
+    answer_is = rw (asked.request_is, s, q)
 
     pub answer-envelope : (b : Bool) → EnvelopeTest service path b → b ≡ true
         → Answers limit (envelope f (part_dispatch t f) memory body limit) old r new after → Answered

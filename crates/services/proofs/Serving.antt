@@ -57,7 +57,7 @@ module _ (structures : List Row) (memory : List ℕ) (service : ℕ) (g : Target
 -- a write's answer, by its status
 stored_answers : (limit service : ℕ) (s : Stored) (old : List ℕ) (r : ℕ) (new before after : List ℕ) (status : Status)
     → Stores s before status after → Laid limit (fail service (status_of status)) old r new → Answers limit (store_answer service s before) old r new after
-stored_answers limit service s old r new before after status k h = rw (k.answer-is service)
+stored_answers limit service s old r new before after status k h = rw (k.answer_is service)
     (laid_answers limit (fail service (status_of status)) old r new after h)
 
 module _ (structures : List Row) (memory : List ℕ) (service : ℕ) (g : Target) (body : List ℕ) (limit : ℕ) (old : List ℕ) (r : ℕ) (new : List ℕ) where

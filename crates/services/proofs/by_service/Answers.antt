@@ -1,0 +1,22 @@
+-- The tests in the definition's order: a symbol page, a tag service on a tag path, else the refusal by the path's object.
+use Rattle.services.proofs.Choosing.{by_page, by_tag, by_other}
+use mathlib.Core.Path.{refl}
+use Rattle.model.proofs.Lent.{some-valid}
+use Rattle.services.proofs.by_service.Goals as goal
+
+pub list_symbols-requires : goal.list_symbols-requires
+list_symbols-requires c = (c.requires.0, some-valid _ _ _ c.requires.2 refl, c.requires.3)
+
+pub returns-then-service-eq-SYMBOL_PAGE : goal.returns-then-service-eq-SYMBOL_PAGE
+returns-then-service-eq-SYMBOL_PAGE c =
+    by_page _ _ _ _ _ _ _ _ _ _ c.if-service-eq-SYMBOL_PAGE.true c.requires.2 c.list_symbols.ensures
+
+pub returns-then-is_tag_request : goal.returns-then-is_tag_request
+returns-then-is_tag_request c =
+    by_tag _ _ _ _ _ _ _ _ _ _ c.if-service-eq-SYMBOL_PAGE.false _ c.is_tag_request.ensures c.if-is_tag_request.true _
+    c.tag_service.ensures
+
+pub returns : goal.returns
+returns c =
+    by_other _ _ _ _ _ _ _ _ _ _ c.if-service-eq-SYMBOL_PAGE.false _ c.is_tag_request.ensures c.if-is_tag_request.false c.args.o
+    c.requires.1 c.refuse_other.ensures

@@ -1,0 +1,12 @@
+-- Each other symbol before i passes against those behind it, so the test of the rest is the test of all.
+use Rattle.tables.proofs.Apart.{paireds}
+use Rattle.tables.proofs.others_apart.Goals as goal
+
+pub loop-i-preserved : goal.loop-i-preserved
+loop-i-preserved c = search paireds
+
+pub returns-else-other_apart : goal.returns-else-other_apart
+returns-else-other_apart c = search paireds
+
+pub returns : goal.returns
+returns c = search paireds

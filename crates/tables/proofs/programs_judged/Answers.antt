@@ -1,0 +1,13 @@
+-- Each row before i passes, so the test of the rest is the test of all.
+use Rattle.laws.proofs.Loops.{everys}
+use borrow.Author.Rules.{rules}
+use Rattle.tables.proofs.programs_judged.Goals as goal
+
+pub loop-i-preserved : goal.loop-i-preserved
+loop-i-preserved c = (search rules, search everys)
+
+pub returns-else-program_judged : goal.returns-else-program_judged
+returns-else-program_judged c = search everys
+
+pub returns : goal.returns
+returns c = search everys

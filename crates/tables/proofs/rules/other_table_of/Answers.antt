@@ -1,0 +1,10 @@
+-- The constant table is the list of the tests' other tables, by computation.
+use Rattle.laws.proofs.Table.{table}
+use Rattle.definition.specs.Breach.{tests, counts, structure_rules, member_rules, program_rules, tag_rules, other_rules, clashes}
+use Rattle.tables.specs.Rules.{other_table_at}
+use borrow.Author.Rules.{rules}
+use Rattle.tables.proofs.rules.other_table_of.Goals as goal
+
+pub returns : goal.returns
+unfolding other_table_at tests counts structure_rules member_rules program_rules tag_rules other_rules clashes
+returns c = table other_table_at 53 c.args.n (search rules)
