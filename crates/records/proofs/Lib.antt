@@ -1,4 +1,3 @@
 pub mod Lists
 pub mod Looking
-pub mod Answers
 pub mod Packing

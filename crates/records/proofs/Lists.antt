@@ -48,6 +48,16 @@ rows-count ts = sym (length-map ts row_of)
 pub rows_at : (ts : List Tag) (i : ℕ) → row_of (tag_at ts i) ≡ row_at (rows_of ts) i
 rows_at ts i = sym (get_or-map row_of ts i no_tag)
 
+-- what the code reads past a list's end
+abbrev pub past_end : Tag
+past_end = record { scope = 0; name_start = 0; name_length = 0; id = 0; ty = 0; lengths = []; elements = 0; access = 0; alias = 0; offset = 0 }
+
+-- what is read inside the list is there whatever stands past its end
+pub tag_read : (ts : List Tag) (i : ℕ) → i < length ts → get_or ts i past_end ≡ tag_at ts i
+tag_read [] i h = absurd (not-suc-le-zero h)
+tag_read (t ∷ ts) zero h = refl
+tag_read (t ∷ ts) (suc i) h = tag_read ts i (le_of_suc-le-suc h)
+
 pub rows-set : (ts : List Tag) (i : ℕ) (t : Tag) → rows_of (set ts i t) ≡ set (rows_of ts) i (row_of t)
 rows-set [] i t = refl
 rows-set (x ∷ ts) zero t = refl
