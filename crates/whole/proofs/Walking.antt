@@ -128,10 +128,10 @@ pub measure_few : {lent : Tables → Tables} {scope : ℕ} {attributes : List �
     → WhereValid lent (λ t. Measuring limit (due t scope attributes 0) (due t scope attributes bound) total)
     → WhereValid lent (λ t. Stepped t scope attributes limit 4 bound old s new) × Further 4 limit s
     → limit ≤ 65535 → s ≡ More u b h → (total + 65535 ≤ 71302080) × (8 ≤ u) × (u ≤ limit)
-measure_few w m step l q =
+measure_few {limit = limit} w m step l q =
     let few = (measure_more _ _ _ _ _ _ _ _ (m w.rest w.memory w.ok) _ _
     (step.0 w.rest w.memory w.ok) l q).1 in
-    let on = further_more _ _ _ q step.1 in
+    let on = further_more 4 limit _ q step.1 in
     (few, on.0, on.1)
 
 -- ---- the entries passed as far as they fit: what is left from here on is what is left from the start

@@ -1,0 +1,9 @@
+-- The bound behind the page is the start if something is due from it on; else nothing is left.
+use Rattle.whole.proofs.Walking.{starts_next}
+use Rattle.whole.proofs.walks.next_start.Goals as goal
+
+pub returns : goal.returns
+returns c = (
+  λ o m v. starts_next _ _ _ _ _ _ _ (c.next_bound-bound.ensures.0 o m v) m v _ c.start_from.ensures,
+  c.next_bound-bound.ensures.1,
+)
