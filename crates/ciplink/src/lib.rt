@@ -1,4 +1,4 @@
-// The C entry points; ciplink.h declares them. A slice of bytes passes as a pointer and a length, a slice of rows as a pointer and a count of rows.
+// What the C entry points do: `ciplink_c` exports each under its name, and ciplink.h declares them.
 #![tactic(auto)]
 
 ghost use Rattle.std.specs.Prelude.{◌≡◌, true, ◌+◌, ◌≤◌, length, get_or};
@@ -61,8 +61,7 @@ fn whole_code(w: Whole) -> u64
 }
 
 /// 1 if the tables are valid by T1 to T6 for this tag memory, else 0.
-#[unsafe(no_mangle)]
-pub extern "C" fn ciplink_valid(
+pub fn ciplink_valid(
     structures: &[[u32; 10]],
     members: &[[u32; 9]],
     programs: &[[u32; 2]],
@@ -102,8 +101,7 @@ fn words_of(t: Told) -> [u64; 5]
 }
 
 /// The rule that the tables break first, 0 where they are valid; `told` says where.
-#[unsafe(no_mangle)]
-pub extern "C" fn ciplink_breach(
+pub fn ciplink_breach(
     structures: &[[u32; 10]],
     members: &[[u32; 9]],
     programs: &[[u32; 2]],
@@ -128,8 +126,7 @@ pub extern "C" fn ciplink_breach(
 }
 
 /// Answers a request over tables that ciplink_valid took, within the limits of items 1 to 3: the reply's length.
-#[unsafe(no_mangle)]
-pub extern "C" fn ciplink_answer(
+pub fn ciplink_answer(
     structures: &[[u32; 10]],
     members: &[[u32; 9]],
     programs: &[[u32; 2]],
@@ -169,8 +166,7 @@ pub extern "C" fn ciplink_answer(
 }
 
 /// Answers any request over any tables: the reply's length, or 0x1_0000_0000 plus the number of an entry refusal, which changes nothing.
-#[unsafe(no_mangle)]
-pub extern "C" fn ciplink_message(
+pub fn ciplink_message(
     structures: &[[u32; 10]],
     members: &[[u32; 9]],
     programs: &[[u32; 2]],
@@ -211,8 +207,7 @@ pub extern "C" fn ciplink_message(
 }
 
 /// Reads all of what a path and an element count select into `out`: the number of bytes joined, or why nothing was (ciplink.h has the numbers).
-#[unsafe(no_mangle)]
-pub extern "C" fn ciplink_read_whole(
+pub fn ciplink_read_whole(
     structures: &[[u32; 10]],
     members: &[[u32; 9]],
     programs: &[[u32; 2]],
@@ -254,8 +249,7 @@ pub extern "C" fn ciplink_read_whole(
 }
 
 /// Lists all symbols of a scope into `out`: the number of bytes joined, or why nothing was (ciplink.h has the numbers).
-#[unsafe(no_mangle)]
-pub extern "C" fn ciplink_list_whole(
+pub fn ciplink_list_whole(
     structures: &[[u32; 10]],
     members: &[[u32; 9]],
     programs: &[[u32; 2]],
@@ -298,13 +292,7 @@ pub extern "C" fn ciplink_list_whole(
 
 /// Joins the masks of a masked write with those of the next one to the same target, in the place of the first pair: 1, or 0 where
 /// the four are not of one length; nothing is written then.
-#[unsafe(no_mangle)]
-pub extern "C" fn ciplink_join_masks(
-    ors: &mut [u8],
-    ands: &mut [u8],
-    next_ors: &[u8],
-    next_ands: &[u8],
-) -> u32
+pub fn ciplink_join_masks(ors: &mut [u8], ands: &mut [u8], next_ors: &[u8], next_ands: &[u8]) -> u32
     ensures { let first = pair ors.old ands.old in let next = pair next_ors.now next_ands.now in
         (result ≡ pick (joinable first next) 1 0) × (pair ors.new ands.new ≡ joined_to first next) }
 {
