@@ -64,8 +64,7 @@ unfolding join_ors
 ors_at_any_width [] next e = (refl, λ i h. absurd (omega arith))
 ors_at_any_width (o ∷ os) [] e = absurd (omega arith)
 ors_at_any_width (o ∷ os) (n ∷ ns) e =
-    let rest = ors_at_any_width os ns (omega arith) in
-    (
+    let rest = ors_at_any_width os ns (omega arith) in (
       ap suc rest.0,
       λ i. elim i as (λ k. k < length (o ∷ os) → get_or (join_ors (o ∷ os) (n ∷ ns)) k 0 ≡ bit_or (get_or (o ∷ os) k 0) (get_or (n ∷ ns) k 0))
           [ zero ↦ λ h. refl | suc j ↦ λ h. rest.1 j (omega arith) ],

@@ -155,8 +155,7 @@ masked_at_any_width [] ors ands p q = (refl, λ i h. absurd (omega arith))
 masked_at_any_width (b ∷ bs) [] ands p q = absurd (omega arith)
 masked_at_any_width (b ∷ bs) (o ∷ os) [] p q = absurd (omega arith)
 masked_at_any_width (b ∷ bs) (o ∷ os) (n ∷ ns) p q =
-    let rest = masked_at_any_width bs os ns (omega arith) (omega arith) in
-    (
+    let rest = masked_at_any_width bs os ns (omega arith) (omega arith) in (
       ap suc rest.0,
       λ i. elim i as (λ k. k < length (b ∷ bs)
           → get_or (masked (b ∷ bs) (o ∷ os) (n ∷ ns)) k 0 ≡ bit_and (bit_or (get_or (b ∷ bs) k 0) (get_or (o ∷ os) k 0)) (get_or (n ∷ ns) k 0))

@@ -5,6 +5,5 @@ use Rattle.records.proofs.is_named.Goals as goal
 pub returns-then-tag-scope : goal.returns-then-tag-scope
 returns-then-tag-scope c = search chain
 
--- TODO no step has_same_name at After-same_name
 pub returns : goal.returns
 returns c = let e = rw c.part_of.ensures at c.same_name.ensures in search chain
