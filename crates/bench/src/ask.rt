@@ -6,6 +6,7 @@ ghost use Rattle.bench.specs.Sent.{Sends};
 use crate::tally::Tally;
 use crate::{controller, tally};
 use pallet::MEMORY;
+use std::io;
 
 /// The bench's reply to a request: its length.
 pub fn send(memory: &mut [u8], request: &[u8], limit: usize, buf: &mut [u8]) -> usize
@@ -16,38 +17,49 @@ pub fn send(memory: &mut [u8], request: &[u8], limit: usize, buf: &mut [u8]) -> 
 }
 
 fn reply(
+    to: &impl Print,
     t: Tally,
     memory: &mut [u8],
     name: &[u8],
     request: &[u8],
     limit: usize,
     expected: &[u8],
-) -> Tally {
+) -> io::Result<Tally> {
     let tags = pallet::TAGS;
     let tag_names = pallet::TAG_NAMES;
-    controller::compare(t, &tags, &tag_names, memory, name, request, limit, expected)
+    controller::compare(
+        to, t, &tags, &tag_names, memory, name, request, limit, expected,
+    )
 }
 
 /// A line of the bench that leaves tag memory as it was.
-pub fn line(t: Tally, name: &[u8], request: &[u8], limit: usize, expected: &[u8]) -> Tally {
+pub fn line(
+    to: &impl Print,
+    t: Tally,
+    name: &[u8],
+    request: &[u8],
+    limit: usize,
+    expected: &[u8],
+) -> io::Result<Tally> {
     let mut memory = MEMORY;
-    let t = reply(t, &mut memory, name, request, limit, expected);
+    let t = reply(to, t, &mut memory, name, request, limit, expected)?;
     if tally::same(&memory, &MEMORY) {
-        return t;
+        return Ok(t);
     }
-    tally::bytes(t, b"  tag memory after it", &memory, &MEMORY)
+    tally::bytes(to, t, b"  tag memory after it", &memory, &MEMORY)
 }
 
 /// A line of the bench that says what tag memory is after it.
 pub fn storing(
+    to: &impl Print,
     t: Tally,
     name: &[u8],
     request: &[u8],
     limit: usize,
     expected: &[u8],
     after: &[u8],
-) -> Tally {
+) -> io::Result<Tally> {
     let mut memory = MEMORY;
-    let t = reply(t, &mut memory, name, request, limit, expected);
-    tally::bytes(t, b"  tag memory after it", &memory, after)
+    let t = reply(to, t, &mut memory, name, request, limit, expected)?;
+    tally::bytes(to, t, b"  tag memory after it", &memory, after)
 }

@@ -8,6 +8,7 @@ ghost use Rattle.bench.specs.Sent.{length_in, Sends};
 use crate::tally;
 use crate::tally::Tally;
 use logix::entry::Outcome;
+use std::io;
 
 /// A reply's length; a request that gets none has no bytes.
 pub fn length_of(o: Outcome) -> usize
@@ -36,6 +37,7 @@ pub fn send(
 
 /// Sends a request and compares its reply.
 pub fn compare(
+    to: &impl Print,
     t: Tally,
     tags: &[[u32; 12]],
     tag_names: &[u8],
@@ -44,8 +46,8 @@ pub fn compare(
     request: &[u8],
     limit: usize,
     expected: &[u8],
-) -> Tally {
+) -> io::Result<Tally> {
     let mut buf = [0xEEu8; 110];
     let n = send(tags, tag_names, memory, request, limit, &mut buf);
-    tally::bytes(t, name, tally::first(&buf, n), expected)
+    tally::bytes(to, t, name, tally::first(&buf, n), expected)
 }

@@ -2,16 +2,19 @@
 use crate::paper::example;
 use crate::tally::Tally;
 use crate::{paper, tally};
+use std::io;
 
-fn writes(t: Tally, memory: &mut [u8]) -> Tally {
+fn writes(to: &impl Print, t: Tally, memory: &mut [u8]) -> io::Result<Tally> {
     let t = example(
+        to,
         t,
         memory,
         b"1756-PM020, write CartonSize",
         b"\x4D\x06\x91\x0ACartonSize\xC4\x00\x01\x00\x0E\x00\x00\x00",
         b"\xCD\x00\x00\x00",
-    );
+    )?;
     example(
+        to,
         t,
         memory,
         b"1756-PM020, masked write ControlWord",
@@ -21,23 +24,26 @@ fn writes(t: Tally, memory: &mut [u8]) -> Tally {
 }
 
 /// The reads see what the writes before them stored: 14, and bit 2 set, bit 5 cleared.
-pub fn all(t: Tally) -> Tally {
+pub fn all(to: &impl Print, t: Tally) -> io::Result<Tally> {
     let mut memory = paper::MEMORY;
     let t = example(
+        to,
         t,
         &mut memory,
         b"1756-PM020, read rate",
         b"\x4C\x03\x91\x04rate\x01\x00",
         b"\xCC\x00\x00\x00\xC4\x00\x16\x02\x00\x00",
-    );
-    let t = writes(t, &mut memory);
+    )?;
+    let t = writes(to, t, &mut memory)?;
     let t = tally::bytes(
+        to,
         t,
         b"  tag memory after both",
         &memory,
         b"\x16\x02\x00\x00\x0E\x00\x00\x00\xDC\x01\x00\x00\x2A\x00\x00\x00",
-    );
+    )?;
     example(
+        to,
         t,
         &mut memory,
         b"1756-PM020, envelope of two reads",

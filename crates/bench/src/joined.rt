@@ -1,9 +1,10 @@
 // Continued reads of `Rows` and continued symbol pages of the pallet bench, joined.
 use crate::tally::Tally;
 use crate::{ask, tally};
+use std::io;
 
 /// What is asked for until a reply has status 0.
-#[derive(Drop)]
+#[derive(Clone, Copy)]
 enum Question {
     Rows,
     Symbols,
@@ -134,42 +135,43 @@ fn join_all(asked: Question, limit: usize, joined: &mut [u8]) -> Joined {
 }
 
 /// A continued read gives the bytes of `Rows` in tag memory, in this many replies.
-fn read(t: Tally, name: &[u8], limit: usize, replies: usize) -> Tally {
+fn read(to: &impl Print, t: Tally, name: &[u8], limit: usize, replies: usize) -> io::Result<Tally> {
     let memory = pallet::MEMORY;
     let mut joined = [0u8; 64];
     let j = join_all(Question::Rows, limit, &mut joined);
-    let t = tally::bytes(t, name, tally::first(&joined, j.bytes), &memory[4..44]);
-    tally::replies(t, j.replies, replies)
+    let t = tally::bytes(to, t, name, tally::first(&joined, j.bytes), &memory[4..44])?;
+    tally::replies(to, t, j.replies, replies)
 }
 
 /// Continued pages give the entries of one page at a large limit, in this many replies.
-fn page(t: Tally, name: &[u8], limit: usize, replies: usize) -> Tally {
+fn page(to: &impl Print, t: Tally, name: &[u8], limit: usize, replies: usize) -> io::Result<Tally> {
     let mut whole = [0u8; 64];
     let w = join_all(Question::Symbols, 100, &mut whole);
     let mut joined = [0u8; 64];
     let j = join_all(Question::Symbols, limit, &mut joined);
     let t = tally::bytes(
+        to,
         t,
         name,
         tally::first(&joined, j.bytes),
         tally::first(&whole, w.bytes),
-    );
-    tally::replies(t, j.replies, replies)
+    )?;
+    tally::replies(to, t, j.replies, replies)
 }
 
-pub fn reads(t: Tally) -> Tally {
-    let t = read(t, b"Rows joined, limit 100", 100, 1);
-    let t = read(t, b"Rows joined, limit 46", 46, 1);
-    let t = read(t, b"Rows joined, limit 45", 45, 2);
-    let t = read(t, b"Rows joined, limit 22", 22, 3);
-    let t = read(t, b"Rows joined, limit 12", 12, 10);
-    let t = read(t, b"Rows joined, limit 9", 9, 14);
-    read(t, b"Rows joined, limit 7", 7, 40)
+pub fn reads(to: &impl Print, t: Tally) -> io::Result<Tally> {
+    let t = read(to, t, b"Rows joined, limit 100", 100, 1)?;
+    let t = read(to, t, b"Rows joined, limit 46", 46, 1)?;
+    let t = read(to, t, b"Rows joined, limit 45", 45, 2)?;
+    let t = read(to, t, b"Rows joined, limit 22", 22, 3)?;
+    let t = read(to, t, b"Rows joined, limit 12", 12, 10)?;
+    let t = read(to, t, b"Rows joined, limit 9", 9, 14)?;
+    read(to, t, b"Rows joined, limit 7", 7, 40)
 }
 
-pub fn pages(t: Tally) -> Tally {
-    let t = page(t, b"symbols joined, limit 41", 41, 1);
-    let t = page(t, b"symbols joined, limit 40", 40, 2);
-    let t = page(t, b"symbols joined, limit 28", 28, 2);
-    page(t, b"symbols joined, limit 17", 17, 3)
+pub fn pages(to: &impl Print, t: Tally) -> io::Result<Tally> {
+    let t = page(to, t, b"symbols joined, limit 41", 41, 1)?;
+    let t = page(to, t, b"symbols joined, limit 40", 40, 2)?;
+    let t = page(to, t, b"symbols joined, limit 28", 28, 2)?;
+    page(to, t, b"symbols joined, limit 17", 17, 3)
 }

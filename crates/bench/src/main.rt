@@ -13,17 +13,20 @@ mod segments;
 mod sets;
 mod tally;
 
-fn main() {
-    segments::paths();
-    sets::judged();
-    let t = lines::reads(tally::none());
-    let t = lines::fragments(t);
-    let t = lines::refusals(t);
-    let t = lines::masked(t);
-    let t = lines::envelopes(t);
-    let t = lines::symbols(t);
-    let t = examples::all(t);
-    let t = joined::reads(t);
-    let t = joined::pages(t);
-    tally::close(t);
+use std::io;
+
+fn main(rt: HostRuntime) -> io::Result<()> {
+    let to = rt.stdout();
+    segments::paths(&to)?;
+    sets::judged(&to)?;
+    let t = lines::reads(&to, tally::none())?;
+    let t = lines::fragments(&to, t)?;
+    let t = lines::refusals(&to, t)?;
+    let t = lines::masked(&to, t)?;
+    let t = lines::envelopes(&to, t)?;
+    let t = lines::symbols(&to, t)?;
+    let t = examples::all(&to, t)?;
+    let t = joined::reads(&to, t)?;
+    let t = joined::pages(&to, t)?;
+    tally::close(&to, t)
 }

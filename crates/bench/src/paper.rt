@@ -1,6 +1,7 @@
 // The tags of 1756-PM020's examples. Their IDs, their order and the values before the writes are this project's choice.
 use crate::controller;
 use crate::tally::Tally;
+use std::io;
 
 /// `rate`, `CartonSize`, `ControlWord` and `parts`, each a DINT.
 const TAGS: [[u32; 12]; 4] = [
@@ -16,8 +17,17 @@ const TAG_NAMES: [u8; 30] = *b"rateCartonSizeControlWordparts";
 pub const MEMORY: [u8; 16] = [0x16, 2, 0, 0, 0, 0, 0, 0, 0xF8, 1, 0, 0, 0x2A, 0, 0, 0];
 
 /// An example of the paper, over what the ones before it left in tag memory.
-pub fn example(t: Tally, memory: &mut [u8], name: &[u8], request: &[u8], expected: &[u8]) -> Tally {
+pub fn example(
+    to: &impl Print,
+    t: Tally,
+    memory: &mut [u8],
+    name: &[u8],
+    request: &[u8],
+    expected: &[u8],
+) -> io::Result<Tally> {
     let tags = TAGS;
     let tag_names = TAG_NAMES;
-    controller::compare(t, &tags, &tag_names, memory, name, request, 100, expected)
+    controller::compare(
+        to, t, &tags, &tag_names, memory, name, request, 100, expected,
+    )
 }

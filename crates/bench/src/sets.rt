@@ -6,6 +6,7 @@ use model::columns::{
     STRUCTURE_SIZE, STRUCTURE_TEMPLATE, TAG_ACCESS, TAG_ALIAS, TAG_ELEMENTS, TAG_ID, TAG_LENGTH_1,
     TAG_LENGTH_2, TAG_LENGTH_3, TAG_OFFSET, TAG_SCOPE, TAG_TYPE, TEMPLATE_LENGTH,
 };
+use std::io;
 
 const STRUCTURE: [u32; 10] = [0, 8, 0x100, 0x1234, 4, 0, 1, 0, 0, 8];
 
@@ -59,7 +60,7 @@ fn sound() -> Set {
     }
 }
 
-fn judge(label: &[u8], s: Set) {
+fn judge(to: &impl Print, label: &[u8], s: Set) -> io::Result<()> {
     let memory = [0u8; 64];
     let inner = s.inner;
     let outer = s.outer;
@@ -77,7 +78,7 @@ fn judge(label: &[u8], s: Set) {
     let names = NAMES;
     let tag_names = TAG_NAMES;
     let templates = [0u8; 8];
-    text(label);
+    text(to, label)?;
     if tables::valid(
         &structures,
         &members,
@@ -89,9 +90,9 @@ fn judge(label: &[u8], s: Set) {
         &templates,
         &memory,
     ) {
-        text(b": valid\n");
+        text(to, b": valid\n")
     } else {
-        text(b": number 4\n");
+        text(to, b": number 4\n")
     }
 }
 
@@ -169,85 +170,107 @@ fn lengths(a: u32, b: u32, c: u32) -> Set {
     s
 }
 
-fn names_and_ids() {
-    judge(b"sound", sound());
-    judge(b"T1 access 4", rows_word(TAG_ACCESS, 4));
-    judge(b"T1 member access 4", cells_word(MEMBER_ACCESS, 4));
-    judge(b"T2 a name of 0 bytes", run_word(MEMBER_NAME_LENGTH, 0));
+fn names_and_ids(to: &impl Print) -> io::Result<()> {
+    judge(to, b"sound", sound())?;
+    judge(to, b"T1 access 4", rows_word(TAG_ACCESS, 4))?;
+    judge(to, b"T1 member access 4", cells_word(MEMBER_ACCESS, 4))?;
+    judge(to, b"T2 a name of 0 bytes", run_word(MEMBER_NAME_LENGTH, 0))?;
     judge(
+        to,
         b"T2 a name past its store",
         other_word(OTHER_NAME_LENGTH, 13),
-    );
-    judge(b"T2 two tags of one name", bits_word(TAG_SCOPE, 0));
+    )?;
+    judge(to, b"T2 two tags of one name", bits_word(TAG_SCOPE, 0))?;
     judge(
+        to,
         b"T2 a program with no name",
         main_word(PROGRAM_NAME_LENGTH, 0),
-    );
-    judge(b"T3 ID 0", rows_word(TAG_ID, 0));
-    judge(b"T3 two tags of one ID", rows_word(TAG_ID, 1));
-    judge(b"T3 a tag's ID in another symbol", other_word(OTHER_ID, 1));
+    )?;
+    judge(to, b"T3 ID 0", rows_word(TAG_ID, 0))?;
+    judge(to, b"T3 two tags of one ID", rows_word(TAG_ID, 1))?;
+    judge(
+        to,
+        b"T3 a tag's ID in another symbol",
+        other_word(OTHER_ID, 1),
+    )
 }
 
-fn structures() {
+fn structures(to: &impl Print) -> io::Result<()> {
     judge(
+        to,
         b"T4 a member past its structure",
         run_word(MEMBER_OFFSET, 4),
-    );
+    )?;
     judge(
+        to,
         b"T4 an array past its structure",
         cells_word(MEMBER_LENGTH, 4),
-    );
+    )?;
     judge(
+        to,
         b"T4 a member of its own structure",
         cells_word(MEMBER_TYPE, 0x101),
-    );
-    judge(b"T4 bit 9", run_word(MEMBER_BIT, 9));
-    judge(b"T4 a structure of 0 bytes", inner_word(STRUCTURE_SIZE, 0));
+    )?;
+    judge(to, b"T4 bit 9", run_word(MEMBER_BIT, 9))?;
     judge(
+        to,
+        b"T4 a structure of 0 bytes",
+        inner_word(STRUCTURE_SIZE, 0),
+    )?;
+    judge(
+        to,
         b"T4 a template past its store",
         outer_word(TEMPLATE_LENGTH, 9),
-    );
+    )
 }
 
-fn elements() {
-    judge(b"T5 no type", rows_word(TAG_TYPE, 0xCC));
+fn elements(to: &impl Print) -> io::Result<()> {
+    judge(to, b"T5 no type", rows_word(TAG_TYPE, 0xCC))?;
     judge(
+        to,
         b"T5 a structure that is not there",
         rows_word(TAG_TYPE, 0x102),
-    );
-    judge(b"T5 nine elements of ten", rows_word(TAG_ELEMENTS, 9));
-    judge(b"T5 2 by 5", lengths(2, 5, 0));
-    judge(b"T5 a zero length first", lengths(0, 10, 0));
+    )?;
+    judge(to, b"T5 nine elements of ten", rows_word(TAG_ELEMENTS, 9))?;
+    judge(to, b"T5 2 by 5", lengths(2, 5, 0))?;
+    judge(to, b"T5 a zero length first", lengths(0, 10, 0))?;
     judge(
+        to,
         b"T5 a product past 64 bits",
         lengths(0xFFFF_FFFF, 0xFFFF_FFFF, 0xFFFF_FFFF),
-    );
-    judge(b"T5 a 32nd of 65", bits_word(TAG_LENGTH_1, 65));
-    judge(b"T5 one word for 64 bits", bits_word(TAG_ELEMENTS, 1));
+    )?;
+    judge(to, b"T5 a 32nd of 65", bits_word(TAG_LENGTH_1, 65))?;
+    judge(to, b"T5 one word for 64 bits", bits_word(TAG_ELEMENTS, 1))
 }
 
-fn bytes_and_rows() {
-    judge(b"T6 past tag memory", bits_word(TAG_OFFSET, 61));
-    judge(b"T6 one byte shared", rows_word(TAG_OFFSET, 3));
-    judge(b"T6 one inside another", bits_word(TAG_OFFSET, 8));
-    judge(b"scope that is no program", rows_word(TAG_SCOPE, 2));
-    judge(b"mark 2", rows_word(TAG_ALIAS, 2));
-    judge(b"hidden mark 2", run_word(MEMBER_HIDDEN, 2));
+fn bytes_and_rows(to: &impl Print) -> io::Result<()> {
+    judge(to, b"T6 past tag memory", bits_word(TAG_OFFSET, 61))?;
+    judge(to, b"T6 one byte shared", rows_word(TAG_OFFSET, 3))?;
+    judge(to, b"T6 one inside another", bits_word(TAG_OFFSET, 8))?;
+    judge(to, b"scope that is no program", rows_word(TAG_SCOPE, 2))?;
+    judge(to, b"mark 2", rows_word(TAG_ALIAS, 2))?;
+    judge(to, b"hidden mark 2", run_word(MEMBER_HIDDEN, 2))?;
     judge(
+        to,
         b"a template ID of 17 bits",
         inner_word(STRUCTURE_TEMPLATE, 0x10000),
-    );
-    judge(b"a symbol type of 17 bits", other_word(OTHER_TYPE, 0x10000));
+    )?;
     judge(
+        to,
+        b"a symbol type of 17 bits",
+        other_word(OTHER_TYPE, 0x10000),
+    )?;
+    judge(
+        to,
         b"members past their table",
         outer_word(STRUCTURE_MEMBERS, 3),
-    );
+    )
 }
 
 /// All of them, each judged.
-pub fn judged() {
-    names_and_ids();
-    structures();
-    elements();
-    bytes_and_rows();
+pub fn judged(to: &impl Print) -> io::Result<()> {
+    names_and_ids(to)?;
+    structures(to)?;
+    elements(to)?;
+    bytes_and_rows(to)
 }

@@ -2,7 +2,7 @@
 ghost use Rattle.std.specs.Prelude.{◌≡◌, true};
 
 use cip::numbers;
-use libc::STDOUT_FILENO;
+use std::io;
 
 #[derive(Drop)]
 pub struct Tally {
@@ -14,21 +14,23 @@ pub fn none() -> Tally {
     Tally { ok: 0, differ: 0 }
 }
 
-pub fn text(s: &[u8]) {
-    io::write_all(STDOUT_FILENO, s);
+pub fn text(to: &impl Print, s: &[u8]) -> io::Result<()> {
+    to.write_all(s)
 }
 
-pub fn number(n: u64) {
-    io::print_decimal(STDOUT_FILENO, n);
+pub fn number(to: &impl Print, n: u64) -> io::Result<()> {
+    to.print(n)
 }
 
-pub fn hex(s: &[u8]) {
+pub fn hex(to: &impl Print, s: &[u8]) -> io::Result<()> {
     let mut i = 0;
     while i < s.len() {
-        text(b" ");
-        io::print_hex(STDOUT_FILENO, numbers::long8(s[i]), 2);
+        let b = s[i];
+        text(to, b" ")?;
+        print!(to; "{b:02x}")?;
         i += 1;
     }
+    Ok(())
 }
 
 /// Whether two texts have the same bytes.
@@ -71,42 +73,48 @@ fn one_differs(t: Tally) -> Tally {
 }
 
 /// Tells bytes, and the expected ones if they are others.
-pub fn bytes(t: Tally, name: &[u8], got: &[u8], expected: &[u8]) -> Tally {
-    text(name);
+pub fn bytes(
+    to: &impl Print,
+    t: Tally,
+    name: &[u8],
+    got: &[u8],
+    expected: &[u8],
+) -> io::Result<Tally> {
+    text(to, name)?;
     if same(got, expected) {
-        text(b": ok");
-        hex(got);
-        text(b"\n");
-        return one_ok(t);
+        text(to, b": ok")?;
+        hex(to, got)?;
+        text(to, b"\n")?;
+        return Ok(one_ok(t));
     }
-    text(b": DIFFERS");
-    hex(got);
-    text(b", expected");
-    hex(expected);
-    text(b"\n");
-    one_differs(t)
+    text(to, b": DIFFERS")?;
+    hex(to, got)?;
+    text(to, b", expected")?;
+    hex(to, expected)?;
+    text(to, b"\n")?;
+    Ok(one_differs(t))
 }
 
 /// Tells how many replies an exchange took.
-pub fn replies(t: Tally, got: usize, expected: usize) -> Tally {
-    text(b"  in replies");
+pub fn replies(to: &impl Print, t: Tally, got: usize, expected: usize) -> io::Result<Tally> {
+    text(to, b"  in replies")?;
     if got == expected {
-        text(b": ok ");
-        number(numbers::long_size(got));
-        text(b"\n");
-        return one_ok(t);
+        text(to, b": ok ")?;
+        number(to, numbers::long_size(got))?;
+        text(to, b"\n")?;
+        return Ok(one_ok(t));
     }
-    text(b": DIFFERS ");
-    number(numbers::long_size(got));
-    text(b", expected ");
-    number(numbers::long_size(expected));
-    text(b"\n");
-    one_differs(t)
+    text(to, b": DIFFERS ")?;
+    number(to, numbers::long_size(got))?;
+    text(to, b", expected ")?;
+    number(to, numbers::long_size(expected))?;
+    text(to, b"\n")?;
+    Ok(one_differs(t))
 }
 
-pub fn close(t: Tally) {
-    number(t.ok);
-    text(b" ok, ");
-    number(t.differ);
-    text(b" differ\n");
+pub fn close(to: &impl Print, t: Tally) -> io::Result<()> {
+    number(to, t.ok)?;
+    text(to, b" ok, ")?;
+    number(to, t.differ)?;
+    text(to, b" differ\n")
 }

@@ -128,7 +128,7 @@ const EDITS: [[u32; 4]; 53] = [
     [TAGS, 4, PLACE, 75],
 ];
 
-#[derive(Drop)]
+#[derive(Clone, Copy)]
 pub struct Edit {
     pub table: u32,
     pub row: usize,

@@ -8,15 +8,15 @@ mod edits;
 
 use crate::edits::Edit;
 use cip::numbers::wide;
-use libc::STDOUT_FILENO;
+use std::io;
 use wording::{MEMBERS, OTHERS, PROGRAMS, STRUCTURES, TAG_MEMORY, TAGS, TEMPLATE_STORE};
 
-fn text(s: &[u8]) {
-    io::write_all(STDOUT_FILENO, s);
+fn text(to: &impl Print, s: &[u8]) -> io::Result<()> {
+    to.write_all(s)
 }
 
-fn number(n: usize) {
-    io::print_decimal(STDOUT_FILENO, n as u64);
+fn number(to: &impl Print, n: usize) -> io::Result<()> {
+    to.print(n)
 }
 
 /// How many rows or bytes of a table are there: those of the base, or one more than T1 allows.
@@ -34,7 +34,7 @@ fn count(e: Edit, table: u32, usual: usize, too_many: usize) -> usize
 }
 
 /// Judges the base with an edit.
-fn judge(e: Edit) {
+fn judge(to: &impl Print, e: Edit) -> io::Result<()> {
     let structures = base::structures(e);
     let members = base::members(e);
     let programs = base::programs(e);
@@ -52,7 +52,7 @@ fn judge(e: Edit) {
     let k = count(e, TEMPLATE_STORE, 24, 65537);
     let b = count(e, TAG_MEMORY, 88, 65537);
     wording::tell(
-        STDOUT_FILENO,
+        to,
         &structures[..s],
         &members[..m],
         &programs[..p],
@@ -62,36 +62,38 @@ fn judge(e: Edit) {
         &tag_names,
         &templates[..k],
         &memory[..b],
-    );
+    )
 }
 
 /// Each test as the first that is broken, by its number from 1 on.
-fn broken() {
+fn broken(to: &impl Print) -> io::Result<()> {
     let mut n = 0;
     while n < edits::TESTS {
-        number(n + 1);
-        text(b" ");
-        judge(edits::of_test(n));
+        number(to, n + 1)?;
+        text(to, b" ")?;
+        judge(to, edits::of_test(n))?;
         n += 1;
     }
+    Ok(())
 }
 
 /// Sets that come close to a breach and have none.
-fn near_misses() {
-    text(b"two tags of one name in two scopes: ");
-    judge(edits::set(TAGS, 4, edits::SYMBOL_NAME, 0));
-    text(b"one ID in two scopes: ");
-    judge(edits::set(TAGS, 3, edits::ID, 1));
-    text(b"two tags that touch: ");
-    judge(edits::set(TAGS, 1, edits::PLACE, 4));
-    text(b"two other symbols of one name: ");
-    judge(edits::set(OTHERS, 1, edits::SYMBOL_NAME, 60));
-    text(b"a name of 40 bytes: ");
-    judge(edits::set(TAGS, 0, edits::SYMBOL_NAME_LENGTH, 40));
+fn near_misses(to: &impl Print) -> io::Result<()> {
+    text(to, b"two tags of one name in two scopes: ")?;
+    judge(to, edits::set(TAGS, 4, edits::SYMBOL_NAME, 0))?;
+    text(to, b"one ID in two scopes: ")?;
+    judge(to, edits::set(TAGS, 3, edits::ID, 1))?;
+    text(to, b"two tags that touch: ")?;
+    judge(to, edits::set(TAGS, 1, edits::PLACE, 4))?;
+    text(to, b"two other symbols of one name: ")?;
+    judge(to, edits::set(OTHERS, 1, edits::SYMBOL_NAME, 60))?;
+    text(to, b"a name of 40 bytes: ")?;
+    judge(to, edits::set(TAGS, 0, edits::SYMBOL_NAME_LENGTH, 40))
 }
 
-fn main() {
-    broken();
-    judge(edits::nothing());
-    near_misses();
+fn main(rt: HostRuntime) -> io::Result<()> {
+    let to = rt.stdout();
+    broken(&to)?;
+    judge(&to, edits::nothing())?;
+    near_misses(&to)
 }

@@ -1,16 +1,17 @@
 // `--join`: a row of masked writes to one path is written as one request; every other request is passed on as its line has it.
-ghost use Rattle.std.specs.Prelude.{◌≤◌, length};
+ghost use Rattle.std.specs.Prelude.{◌≤◌, length, IfOk};
 
 use crate::{lines, reply, say};
 use input::hex::Line;
 use input::{clicks, hex};
-use libc::{STDERR_FILENO, STDIN_FILENO};
+use std::io;
+use std::io::Read;
 
 /// One byte more than is read, for the last line's end.
 const MOST: usize = 262144;
 
 /// A row of masked writes: the bytes of its request, how many were joined to it, and the line of the first. No bytes: no row.
-#[derive(Drop)]
+#[derive(Clone, Copy)]
 struct Row {
     len: usize,
     clicks: u64,
@@ -28,82 +29,103 @@ fn no_row() -> Row
 }
 
 /// How many masked writes a request stands for.
-fn tell(row: Row) {
-    say::text(b" # joined: ");
-    say::number(row.clicks);
-    say::text(b" masked writes from line ");
-    say::number(row.line);
-    say::text(b" on");
+fn tell(to: &impl Print, row: Row) -> io::Result<()> {
+    say::text(to, b" # joined: ")?;
+    say::number(to, row.clicks)?;
+    say::text(to, b" masked writes from line ")?;
+    say::number(to, row.line)?;
+    say::text(to, b" on")
 }
 
 /// Writes the row's request out.
-fn flush(held: &[u8], row: Row)
+fn flush(to: &impl Print, held: &[u8], row: Row) -> io::Result<()>
     requires { row.len ≤ length held.now }
 {
     let len = row.len;
     if len == 0 {
-        return;
+        return Ok(());
     }
-    reply::bytes(&held[..len]);
+    reply::bytes(to, &held[..len])?;
     if row.clicks > 1 {
-        tell(row);
+        tell(to, row)?;
     }
-    say::text(b"\n");
+    say::text(to, b"\n")
 }
 
 /// A request that joins no row: a masked write begins one, and anything else is passed on.
-fn begin(held: &mut [u8], next: &[u8], line: &[u8], number: u64) -> Row
+fn begin(to: &impl Print, held: &mut [u8], next: &[u8], line: &[u8], number: u64) -> io::Result<Row>
     requires { length next.now ≤ length held.old }
-    ensures { result.len ≤ length held.old }
+    ensures { IfOk result (λ row. row.len ≤ length held.old) }
 {
     if clicks::is_masked_write(next) {
         cip::copy_into(held, 0, next);
-        return Row {
+        return Ok(Row {
             len: next.len(),
             clicks: 1,
             line: number,
-        };
+        });
     }
-    say::text(line);
-    say::text(b"\n");
-    no_row()
+    say::text(to, line)?;
+    say::text(to, b"\n")?;
+    Ok(no_row())
 }
 
 /// A request behind a row: joined to it, or the row ends.
-fn follow(held: &mut [u8], row: Row, next: &[u8], line: &[u8], number: u64) -> Row
+fn follow(
+    to: &impl Print,
+    held: &mut [u8],
+    row: Row,
+    next: &[u8],
+    line: &[u8],
+    number: u64,
+) -> io::Result<Row>
     requires { (row.len ≤ length held.old) × (length next.now ≤ length held.old) }
-    ensures { result.len ≤ length held.old }
+    ensures { IfOk result (λ after. after.len ≤ length held.old) }
 {
     let len = row.len;
     if clicks::join(&mut held[..len], next) {
-        return Row {
+        return Ok(Row {
             len: len,
             clicks: std::num::wrapping_add_u64(row.clicks, 1),
             line: row.line,
-        };
+        });
     }
-    flush(held, row);
-    begin(held, next, line, number)
+    flush(to, held, row)?;
+    begin(to, held, next, line, number)
 }
 
 /// One line of the input.
-fn take_line(held: &mut [u8], row: Row, next: &mut [u8], line: &[u8], number: u64) -> Row
+fn take_line(
+    to: &impl Print,
+    err: &impl Print,
+    held: &mut [u8],
+    row: Row,
+    next: &mut [u8],
+    line: &[u8],
+    number: u64,
+) -> io::Result<Row>
     requires { (row.len ≤ length held.old) × (length next.old ≤ length held.old) }
-    ensures { result.len ≤ length held.old }
+    ensures { IfOk result (λ after. after.len ≤ length held.old) }
 {
     match hex::parse(line, next) {
-        Line::Empty => row,
+        Line::Empty => Ok(row),
         Line::Wrong(f) => {
-            flush(held, row);
-            lines::complain(STDERR_FILENO, number, f);
-            no_row()
+            flush(to, held, row)?;
+            lines::complain(err, number, f)?;
+            Ok(no_row())
         }
-        Line::Request(_, n) => follow(held, row, &next[..n], line, number),
+        Line::Request(_, n) => follow(to, held, row, &next[..n], line, number),
     }
 }
 
 /// Each line of the input, and the last row.
-fn take_lines(held: &mut [u8], next: &mut [u8], input: &[u8])
+fn take_lines(
+    to: &impl Print,
+    err: &impl Print,
+    held: &mut [u8],
+    next: &mut [u8],
+    input: &[u8],
+) -> io::Result<()>
     requires { (length next.old ≤ length held.old) × (length input.now ≤ 262144) }
 {
     let mut row = no_row();
@@ -111,24 +133,23 @@ fn take_lines(held: &mut [u8], next: &mut [u8], input: &[u8])
     let mut start = 0;
     let mut end = input::lines::find(input, 0, b'\n');
     while end < input.len() {
-        row = take_line(held, row, next, &input[start..end], number);
+        row = take_line(to, err, held, row, next, &input[start..end], number)?;
         number = std::num::wrapping_add_u64(number, 1);
         start = end + 1;
         end = input::lines::find(input, start, b'\n');
     }
-    flush(held, row);
+    flush(to, held, row)
 }
 
 /// Reads standard input to its end.
-pub fn start() {
+pub fn start(from: &mut impl Read, to: &impl Print, err: &impl Print) -> io::Result<()> {
     let mut input = [0u8; MOST];
-    let n = io::read_full(STDIN_FILENO, &mut input);
+    let n = lines::read_full(from, &mut input)?;
     if n >= MOST {
-        say::fault(b"the input is longer than 262143 characters\n");
-        return;
+        return say::fault(err, b"the input is longer than 262143 characters\n");
     }
     input[n] = b'\n';
     let mut held = [0u8; 65535];
     let mut next = [0u8; 65535];
-    take_lines(&mut held, &mut next, &input[..n + 1]);
+    take_lines(to, err, &mut held, &mut next, &input[..n + 1])
 }

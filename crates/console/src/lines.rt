@@ -1,44 +1,61 @@
 // Standard input read into a fixed buffer, a line that is longer than it, and one that is no request.
-ghost use Rattle.std.specs.Prelude.{◌≡◌, ◌<◌, true, length};
+ghost use Rattle.std.specs.Prelude.{◌≡◌, ◌<◌, ◌≤◌, true, length, take, IfOk, OnErr};
 ghost use Rattle.input.specs.Text.{More};
 
 use crate::say;
 use input::hex::Fault;
 use input::lines::Cursor;
-use libc::{STDIN_FILENO, STDOUT_FILENO};
+use std::io;
+use std::io::Read;
 
 /// A line that fills the buffer is said to be too long once; what comes of it further on is dropped.
-pub fn overflow(place: Cursor) -> Cursor
-    ensures { (result.at ≡ 0) × (result.line ≡ place.line) × (result.skipping ≡ true) × (result.open ≡ true) }
+pub fn overflow(to: &impl Print, place: Cursor) -> io::Result<Cursor>
+    ensures { IfOk result (λ next. (next.at ≡ 0) × (next.line ≡ place.line) × (next.skipping ≡ true) × (next.open ≡ true)) }
 {
     if !place.skipping {
-        say::about_line(STDOUT_FILENO, place.line, b"longer than 262143 characters");
+        say::about_line(to, place.line, b"longer than 262143 characters")?;
     }
-    Cursor {
+    Ok(Cursor {
         at: 0,
         line: place.line,
         skipping: true,
         open: true,
-    }
+    })
 }
 
-/// Reads once behind what is there and answers the new end: `ended` of the number of bytes that came.
-pub fn read_more(input: &mut [u8], at: usize) -> usize
+/// Reads once behind what is there and answers the new end: `ended` of the number of bytes that came. A read that fails
+/// changes nothing of what was there.
+pub fn read_more(from: &mut impl Read, input: &mut [u8], at: usize) -> io::Result<usize>
     requires { at < length input.old }
-    ensures { More at input.old input.new result }
+    ensures came { IfOk result (λ end. More at input.old input.new end) }
+    ensures failed { OnErr result ((take at input.new ≡ take at input.old) × (length input.new ≡ length input.old)) }
 {
-    let got = libc::read(STDIN_FILENO, &mut input[at..]);
-    let n = io::count(got, &input[at..]);
-    input::lines::ended(input, at, n)
+    let n = from.read(&mut input[at..])?;
+    Ok(input::lines::ended(input, at, n))
+}
+
+/// Reads until the buffer is full or the input ends, and answers how many bytes it put at the buffer's start.
+pub fn read_full(from: &mut impl Read, input: &mut [u8]) -> io::Result<usize>
+    ensures { IfOk result (λ n. n ≤ length input.old) }
+{
+    let mut done = 0;
+    while done < input.len() {
+        let n = from.read(&mut input[done..])?;
+        if n == 0 {
+            return Ok(done);
+        }
+        done += n;
+    }
+    Ok(done)
 }
 
 /// Says what keeps a line from being a request.
-pub fn complain(fd: i32, line: u64, f: Fault) {
+pub fn complain(to: &impl Print, line: u64, f: Fault) -> io::Result<()> {
     match f {
-        Fault::Digit => say::about_line(fd, line, b"not a hex digit"),
-        Fault::Odd => say::about_line(fd, line, b"an odd number of hex digits"),
-        Fault::NoNumber => say::about_line(fd, line, b"the limit is not a number"),
-        Fault::OverLimit => say::about_line(fd, line, b"the limit is over 65535"),
-        Fault::TooLong => say::about_line(fd, line, b"the request is longer than 65535 bytes"),
+        Fault::Digit => say::about_line(to, line, b"not a hex digit"),
+        Fault::Odd => say::about_line(to, line, b"an odd number of hex digits"),
+        Fault::NoNumber => say::about_line(to, line, b"the limit is not a number"),
+        Fault::OverLimit => say::about_line(to, line, b"the limit is over 65535"),
+        Fault::TooLong => say::about_line(to, line, b"the request is longer than 65535 bytes"),
     }
 }

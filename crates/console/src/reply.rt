@@ -2,6 +2,7 @@
 ghost use Rattle.std.specs.Prelude.{◌*◌, ◌≤◌, length};
 
 use crate::say;
+use std::io;
 
 /// Bytes that are written at once.
 const PIECE: usize = 1024;
@@ -34,76 +35,78 @@ fn at_most(n: usize, most: usize) -> usize
 }
 
 /// Two digits and a space for each byte.
-pub fn bytes(s: &[u8]) {
+pub fn bytes(to: &impl Print, s: &[u8]) -> io::Result<()> {
     let mut out = [0u8; 3072];
     let mut at = 0;
     while at < s.len() {
         let n = at_most(s.len() - at, PIECE);
         if n == 0 {
-            return;
+            return Ok(());
         }
         spell(&s[at..at + n], &mut out);
-        say::text(&out[..3 * n]);
+        say::text(to, &out[..3 * n])?;
         at += n;
     }
+    Ok(())
 }
 
 /// CIP Volume 1, Appendix B.
-fn general(code: u8) {
+fn general(to: &impl Print, code: u8) -> io::Result<()> {
     match code {
-        0x00 => say::text(b"success"),
-        0x03 => say::text(b"invalid parameter value"),
-        0x04 => say::text(b"path segment error"),
-        0x05 => say::text(b"path destination unknown"),
-        0x06 => say::text(b"partial transfer"),
-        0x08 => say::text(b"service not supported"),
-        0x0F => say::text(b"privilege violation"),
-        0x11 => say::text(b"reply data too large"),
-        0x13 => say::text(b"not enough data"),
-        0x14 => say::text(b"attribute not supported"),
-        0x15 => say::text(b"too much data"),
-        0x1E => say::text(b"embedded service error"),
-        0xFF => say::text(b"general error"),
-        _ => say::text(b"status not known"),
+        0x00 => say::text(to, b"success"),
+        0x03 => say::text(to, b"invalid parameter value"),
+        0x04 => say::text(to, b"path segment error"),
+        0x05 => say::text(to, b"path destination unknown"),
+        0x06 => say::text(to, b"partial transfer"),
+        0x08 => say::text(to, b"service not supported"),
+        0x0F => say::text(to, b"privilege violation"),
+        0x11 => say::text(to, b"reply data too large"),
+        0x13 => say::text(to, b"not enough data"),
+        0x14 => say::text(to, b"attribute not supported"),
+        0x15 => say::text(to, b"too much data"),
+        0x1E => say::text(to, b"embedded service error"),
+        0xFF => say::text(to, b"general error"),
+        _ => say::text(to, b"status not known"),
     }
 }
 
 /// 1756-PM020's extended words.
-fn extended(word: u16) {
+fn extended(to: &impl Print, word: u16) -> io::Result<()> {
     match word {
-        0x2100 => say::text(b" 0x2100, access denied"),
-        0x2105 => say::text(b" 0x2105, beyond end"),
-        0x2107 => say::text(b" 0x2107, wrong type"),
-        _ => say::text(b", extended word not known"),
+        0x2100 => say::text(to, b" 0x2100, access denied"),
+        0x2105 => say::text(to, b" 0x2105, beyond end"),
+        0x2107 => say::text(to, b" 0x2107, wrong type"),
+        _ => say::text(to, b", extended word not known"),
     }
 }
 
-fn status(s: &[u8]) {
+fn status(to: &impl Print, s: &[u8]) -> io::Result<()> {
     if s.len() < 4 {
-        return;
+        return Ok(());
     }
-    general(s[2]);
+    general(to, s[2])?;
     if s[3] == 0 {
-        return;
+        return Ok(());
     }
     if s.len() < 6 {
-        return;
+        return Ok(());
     }
-    extended(cip::u16_at(s, 4));
+    extended(to, cip::u16_at(s, 4))
 }
 
 /// The number of the line that is answered, where it is asked for.
-fn number(numbers: bool, line: u64) {
+fn number(to: &impl Print, numbers: bool, line: u64) -> io::Result<()> {
     if numbers {
-        say::number(line);
-        say::text(b": ");
+        say::number(to, line)?;
+        say::text(to, b": ")?;
     }
+    Ok(())
 }
 
-pub fn show(s: &[u8], numbers: bool, line: u64) {
-    number(numbers, line);
-    bytes(s);
-    say::text(b" # ");
-    status(s);
-    say::text(b"\n");
+pub fn show(to: &impl Print, s: &[u8], numbers: bool, line: u64) -> io::Result<()> {
+    number(to, numbers, line)?;
+    bytes(to, s)?;
+    say::text(to, b" # ")?;
+    status(to, s)?;
+    say::text(to, b"\n")
 }

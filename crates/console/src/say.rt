@@ -1,27 +1,29 @@
 // What the program writes: replies to standard output, and what keeps it from serving to standard error.
-use libc::{STDERR_FILENO, STDOUT_FILENO};
+use std::io;
 
-pub fn text(s: &[u8]) {
-    io::write_all(STDOUT_FILENO, s);
+pub fn text(to: &impl Print, s: &[u8]) -> io::Result<()> {
+    to.write_all(s)
 }
 
-pub fn number(n: u64) {
-    io::print_decimal(STDOUT_FILENO, n);
+pub fn number(to: &impl Print, n: u64) -> io::Result<()> {
+    to.print(n)
 }
 
-pub fn fault(s: &[u8]) {
-    io::write_all(STDERR_FILENO, s);
+/// To standard error.
+pub fn fault(err: &impl Print, s: &[u8]) -> io::Result<()> {
+    err.write_all(s)
 }
 
-pub fn fault_number(n: u64) {
-    io::print_decimal(STDERR_FILENO, n);
+/// To standard error.
+pub fn fault_number(err: &impl Print, n: u64) -> io::Result<()> {
+    err.print(n)
 }
 
 /// A line that says what is wrong with a line of the input.
-pub fn about_line(fd: i32, line: u64, what: &[u8]) {
-    io::write_all(fd, b"line ");
-    io::print_decimal(fd, line);
-    io::write_all(fd, b": ");
-    io::write_all(fd, what);
-    io::write_all(fd, b"\n");
+pub fn about_line(to: &impl Print, line: u64, what: &[u8]) -> io::Result<()> {
+    to.write_all(b"line ")?;
+    to.print(line)?;
+    to.write_all(b": ")?;
+    to.write_all(what)?;
+    to.write_all(b"\n")
 }

@@ -228,7 +228,7 @@ module _ (t : Tables) (memory : ℕ) (b : Breach) (e : breach t memory ≡ some 
           (λ i j r f h. same_ids _ _ h (λ q. omega arith)),
           ((λ i j r f h. same_ids _ _ h (λ q. omega arith)), ((λ i j r f h. same_ids _ _ h (λ q. omega arith)), tt)),
         );
-    has_structure_size = rule (λ c s. s.has_structure_size) (search none_or_over);
+    size_of_structure = rule (λ c s. s.size_of_structure) (search none_or_over);
     template_not_stored = rule (λ c s. s.template_not_stored) (omega (arith, leb-false));
     bit_high = rule (λ c s. s.bit_high) (omega (arith, leb-false));
     type_not_earlier = rule (λ c s. s.type_not_earlier) ((λ i j r f h. (no_type _ _ h, omega arith)), tt);

@@ -117,7 +117,7 @@ module _ (t : Tables) (memory : ℕ) (b : Breach) where
     pub id_zero : b.rule ≡ 301 → symbol_id told_row ≡ 0
     pub same_id : b.rule ≡ 302 → (symbol_scope clash_row ≡ symbol_scope told_row) × (symbol_id clash_row ≡ symbol_id told_row) × Later
     -- T4: a structure's size and template; a member's bit, its type and its place in its structure
-    pub has_structure_size : b.rule ≡ 401 → (structure_size told_row ≡ 0) ⊎ (65535 < structure_size told_row)
+    pub size_of_structure : b.rule ≡ 401 → (structure_size told_row ≡ 0) ⊎ (65535 < structure_size told_row)
     pub template_not_stored : b.rule ≡ 402 → length t.templates < template_start told_row + template_length told_row
     pub bit_high : b.rule ≡ 403 → 8 < member_bit told_row
     pub type_not_earlier : b.rule ≡ 404 → NoType b.other (member_type told_row) × ItsMember

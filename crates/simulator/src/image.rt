@@ -1,5 +1,5 @@
 // A table image (IMAGE.md): a head with the counts, the rows, the stores and the tag memory.
-ghost use Rattle.std.specs.Prelude.{◌≡◌, ◌+◌, ◌%◌, ◌≤◌, true, false, length, ◌==◌};
+ghost use Rattle.std.specs.Prelude.{◌≡◌, ◌+◌, ◌%◌, ◌≤◌, true, false, length, ◌==◌, IfOk};
 ghost use Rattle.definition.specs.Bytes.{u32_at};
 ghost use Rattle.simulator.specs.Images.{HeadIn, FlagsIn, SmallHead, rows_size, stores_size, image_size};
 
@@ -8,9 +8,11 @@ use console::say;
 use input::image_rows;
 use input::options::Options;
 use model::Flags;
+use std::io;
+use std::io::Read;
 
 /// The flags, the rows of each table and the bytes of each store.
-#[derive(Drop)]
+#[derive(Clone, Copy)]
 pub struct Head {
     pub flags: u32,
     pub structures: usize,
@@ -66,51 +68,51 @@ fn read_head(image: &[u8]) -> Head
 }
 
 /// Whether a count is above what a controller takes; if so, it is said.
-fn over(n: usize, what: &[u8], most: usize) -> bool
-    ensures { result ≡ false → n ≤ most }
+fn over(err: &impl Print, n: usize, what: &[u8], most: usize) -> io::Result<bool>
+    ensures { IfOk result (λ is_over. is_over ≡ false → n ≤ most) }
 {
     if n <= most {
-        return false;
+        return Ok(false);
     }
-    say::fault(b"table image: ");
-    say::fault_number(n as u64);
-    say::fault(b" ");
-    say::fault(what);
-    say::fault(b", at most ");
-    say::fault_number(most as u64);
-    say::fault(b"\n");
-    true
+    say::fault(err, b"table image: ")?;
+    say::fault_number(err, n as u64)?;
+    say::fault(err, b" ")?;
+    say::fault(err, what)?;
+    say::fault(err, b", at most ")?;
+    say::fault_number(err, most as u64)?;
+    say::fault(err, b"\n")?;
+    Ok(true)
 }
 
 /// Whether no count is above what T1 allows.
-fn few(h: Head) -> bool
-    ensures { result ≡ true → SmallHead h }
+fn few(err: &impl Print, h: Head) -> io::Result<bool>
+    ensures { IfOk result (λ is_few. is_few ≡ true → SmallHead h) }
 {
-    if over(h.structures, b"structures", 64) {
-        return false;
+    if over(err, h.structures, b"structures", 64)? {
+        return Ok(false);
     }
-    if over(h.members, b"members", 512) {
-        return false;
+    if over(err, h.members, b"members", 512)? {
+        return Ok(false);
     }
-    if over(h.programs, b"programs", 16) {
-        return false;
+    if over(err, h.programs, b"programs", 16)? {
+        return Ok(false);
     }
-    if over(h.tags, b"tags", 1024) {
-        return false;
+    if over(err, h.tags, b"tags", 1024)? {
+        return Ok(false);
     }
-    if over(h.others, b"other symbols", 64) {
-        return false;
+    if over(err, h.others, b"other symbols", 64)? {
+        return Ok(false);
     }
-    if over(h.names, b"bytes of names", 26752) {
-        return false;
+    if over(err, h.names, b"bytes of names", 26752)? {
+        return Ok(false);
     }
-    if over(h.tag_names, b"bytes of tag names", 40960) {
-        return false;
+    if over(err, h.tag_names, b"bytes of tag names", 40960)? {
+        return Ok(false);
     }
-    if over(h.templates, b"bytes of templates", 65536) {
-        return false;
+    if over(err, h.templates, b"bytes of templates", 65536)? {
+        return Ok(false);
     }
-    !over(h.memory, b"bytes of tag memory", 65536)
+    Ok(!over(err, h.memory, b"bytes of tag memory", 65536)?)
 }
 
 /// The bytes of the head and the rows.
@@ -147,6 +149,9 @@ fn flags_of(word: u32) -> Flags
 
 /// The stores and the tag memory stand behind the rows; with them the session is opened.
 fn open_with(
+    from: &mut impl Read,
+    to: &impl Print,
+    err: &impl Print,
     h: Head,
     stores: &[u8],
     structures: &[[u32; 10]],
@@ -155,7 +160,7 @@ fn open_with(
     tags: &[[u32; 12]],
     others: &[[u32; 5]],
     o: Options,
-)
+) -> io::Result<()>
     requires { (SmallHead h) × (length stores.now ≡ stores_size h) }
 {
     let a = h.names;
@@ -165,6 +170,9 @@ fn open_with(
     let mut memory = [0u8; 65536];
     cip::copy_into(&mut memory, 0, &stores[c..]);
     session::open(
+        from,
+        to,
+        err,
         structures,
         members,
         programs,
@@ -176,11 +184,18 @@ fn open_with(
         flags_of(h.flags),
         &mut memory[..size],
         o,
-    );
+    )
 }
 
 /// The tables of a whole image.
-fn load(h: Head, image: &[u8], options: Options)
+fn load(
+    from: &mut impl Read,
+    to: &impl Print,
+    err: &impl Print,
+    h: Head,
+    image: &[u8],
+    options: Options,
+) -> io::Result<()>
     requires { (SmallHead h) × (length image.now ≡ image_size h) }
 {
     let n = h.structures;
@@ -199,6 +214,9 @@ fn load(h: Head, image: &[u8], options: Options)
     let others = image_rows::others(image, at, o);
     let at = at + 20 * o;
     open_with(
+        from,
+        to,
+        err,
         h,
         &image[at..],
         &structures[..n],
@@ -207,31 +225,36 @@ fn load(h: Head, image: &[u8], options: Options)
         &tags[..t],
         &others[..o],
         options,
-    );
+    )
 }
 
 /// Serves the tables of an image as the options ask, or says what is wrong with it.
-pub fn serve(image: &[u8], o: Options) {
+pub fn serve(
+    from: &mut impl Read,
+    to: &impl Print,
+    err: &impl Print,
+    image: &[u8],
+    o: Options,
+) -> io::Result<()> {
     if !has_magic(image) {
-        say::fault(b"table image: it does not begin with CIPLINK1\n");
-        return;
+        return say::fault(err, b"table image: it does not begin with CIPLINK1\n");
     }
     if image.len() < 48 {
-        say::fault(b"table image: it is shorter than its head of 48 bytes\n");
-        return;
+        return say::fault(
+            err,
+            b"table image: it is shorter than its head of 48 bytes\n",
+        );
     }
     let h = read_head(image);
-    if !few(h) {
-        return;
+    if !few(err, h)? {
+        return Ok(());
     }
     let n = size(h);
     if image.len() < n {
-        say::fault(b"table image: it is shorter than its counts ask\n");
-        return;
+        return say::fault(err, b"table image: it is shorter than its counts ask\n");
     }
     if image.len() > n {
-        say::fault(b"table image: it has bytes behind its tag memory\n");
-        return;
+        return say::fault(err, b"table image: it has bytes behind its tag memory\n");
     }
-    load(h, image, o);
+    load(from, to, err, h, image, o)
 }

@@ -1,5 +1,5 @@
 // A session: the tables are judged once, then each line of standard input is answered.
-ghost use Rattle.std.specs.Prelude.{◌≡◌, ◌≤◌, true, length};
+ghost use Rattle.std.specs.Prelude.{◌≡◌, ◌≤◌, true, length, IfOk};
 ghost use Rattle.definition.specs.Valid.{valid};
 ghost use Rattle.model.specs.Tables.{tables_of};
 
@@ -8,12 +8,14 @@ use input::hex;
 use input::hex::Line;
 use input::lines::Cursor;
 use input::options::Options;
-use libc::{STDERR_FILENO, STDOUT_FILENO};
 use model::Flags;
+use std::io;
+use std::io::Read;
 use tables::rules::Told;
 
 /// Answers a request and shows the reply.
 fn respond(
+    to: &impl Print,
     structures: &[[u32; 10]],
     members: &[[u32; 9]],
     programs: &[[u32; 2]],
@@ -29,7 +31,7 @@ fn respond(
     buf: &mut [u8],
     numbers: bool,
     number: u64,
-)
+) -> io::Result<()>
     requires { let t = tables_of structures.now members.now programs.now tags.now others.now names.now tag_names.now templates.now in
         (length request.now ≤ 65535) × (limit ≤ 65535) × (65535 ≤ length buf.old) × (valid t (length memory.old) ≡ true) }
 {
@@ -37,11 +39,12 @@ fn respond(
         structures, members, programs, tags, others, names, tag_names, templates, flags, memory,
         request, limit, buf,
     );
-    reply::show(&buf[..n], numbers, number);
+    reply::show(to, &buf[..n], numbers, number)
 }
 
 /// Answers a line, unless it is the rest of one that was too long.
 fn serve_line(
+    to: &impl Print,
     structures: &[[u32; 10]],
     members: &[[u32; 9]],
     programs: &[[u32; 2]],
@@ -58,17 +61,18 @@ fn serve_line(
     skipping: bool,
     request: &mut [u8],
     buf: &mut [u8],
-)
+) -> io::Result<()>
     requires { let t = tables_of structures.now members.now programs.now tags.now others.now names.now tag_names.now templates.now in
         (length request.old ≤ 65535) × (65535 ≤ length buf.old) × (valid t (length memory.old) ≡ true) }
 {
     if skipping {
-        return;
+        return Ok(());
     }
     match hex::parse(line, request) {
-        Line::Empty => {}
-        Line::Wrong(f) => lines::complain(STDOUT_FILENO, number, f),
+        Line::Empty => Ok(()),
+        Line::Wrong(f) => lines::complain(to, number, f),
         Line::Request(limit, n) => respond(
+            to,
             structures,
             members,
             programs,
@@ -90,6 +94,7 @@ fn serve_line(
 
 /// Answers each whole line of the input; what is left starts at the place's position.
 fn serve_lines(
+    to: &impl Print,
     structures: &[[u32; 10]],
     members: &[[u32; 9]],
     programs: &[[u32; 2]],
@@ -105,10 +110,10 @@ fn serve_lines(
     request: &mut [u8],
     buf: &mut [u8],
     place: Cursor,
-) -> Cursor
+) -> io::Result<Cursor>
     requires { let t = tables_of structures.now members.now programs.now tags.now others.now names.now tag_names.now templates.now in
         (length request.old ≤ 65535) × (65535 ≤ length buf.old) × (length input.now ≤ 262144) × (valid t (length memory.old) ≡ true) }
-    ensures { result.at ≤ length input.now }
+    ensures { IfOk result (λ next. next.at ≤ length input.now) }
 {
     let mut start = 0;
     let mut number = place.line;
@@ -116,6 +121,7 @@ fn serve_lines(
     let mut end = input::lines::find(input, 0, b'\n');
     while end < input.len() {
         serve_line(
+            to,
             structures,
             members,
             programs,
@@ -132,22 +138,24 @@ fn serve_lines(
             skipping,
             request,
             buf,
-        );
+        )?;
         skipping = false;
         number = std::num::wrapping_add_u64(number, 1);
         start = end + 1;
         end = input::lines::find(input, start, b'\n');
     }
-    Cursor {
+    Ok(Cursor {
         at: start,
         line: number,
         skipping: skipping,
         open: true,
-    }
+    })
 }
 
 /// Reads once more and answers the lines that are whole.
 fn turn(
+    from: &mut impl Read,
+    to: &impl Print,
     structures: &[[u32; 10]],
     members: &[[u32; 9]],
     programs: &[[u32; 2]],
@@ -163,21 +171,22 @@ fn turn(
     request: &mut [u8],
     buf: &mut [u8],
     place: Cursor,
-) -> Cursor
+) -> io::Result<Cursor>
     requires { let t = tables_of structures.now members.now programs.now tags.now others.now names.now tag_names.now templates.now in
         (length request.old ≤ 65535) × (65535 ≤ length buf.old) × (length input.old ≤ 262144) × (place.at ≤ length input.old)
         × (valid t (length memory.old) ≡ true) }
-    ensures { result.at ≤ length input.old }
+    ensures { IfOk result (λ next. next.at ≤ length input.old) }
 {
     let at = place.at;
     if at >= input.len() {
-        return lines::overflow(place);
+        return lines::overflow(to, place);
     }
-    let end = lines::read_more(input, at);
+    let end = lines::read_more(from, input, at)?;
     if end == 0 {
-        return input::lines::closed();
+        return Ok(input::lines::closed());
     }
     let next = serve_lines(
+        to,
         structures,
         members,
         programs,
@@ -193,12 +202,14 @@ fn turn(
         request,
         buf,
         place,
-    );
-    input::lines::shift(input, end, next)
+    )?;
+    Ok(input::lines::shift(input, end, next))
 }
 
 /// Answers standard input to its end. No run uses up the count of turns.
 fn serve(
+    from: &mut impl Read,
+    to: &impl Print,
     structures: &[[u32; 10]],
     members: &[[u32; 9]],
     programs: &[[u32; 2]],
@@ -210,7 +221,7 @@ fn serve(
     flags: Flags,
     numbers: bool,
     memory: &mut [u8],
-)
+) -> io::Result<()>
     requires { let t = tables_of structures.now members.now programs.now tags.now others.now names.now tag_names.now templates.now in
         (valid t (length memory.old) ≡ true) }
 {
@@ -221,6 +232,8 @@ fn serve(
     let mut turns = u64::MAX;
     while turns > 0 && place.open {
         place = turn(
+            from,
+            to,
             structures,
             members,
             programs,
@@ -236,13 +249,15 @@ fn serve(
             &mut request,
             &mut buf,
             place,
-        );
+        )?;
         turns -= 1;
     }
+    Ok(())
 }
 
 /// Whether the tables are valid for this tag memory; if not, it is said what they break.
 fn judged(
+    err: &impl Print,
     structures: &[[u32; 10]],
     members: &[[u32; 9]],
     programs: &[[u32; 2]],
@@ -252,34 +267,31 @@ fn judged(
     tag_names: &[u8],
     templates: &[u8],
     memory: &[u8],
-) -> bool
+) -> io::Result<bool>
     ensures { let t = tables_of structures.now members.now programs.now tags.now
         others.now names.now tag_names.now templates.now in
-        (result ≡ true → valid t (length memory.now) ≡ true) }
+        IfOk result (λ is_valid. is_valid ≡ true → valid t (length memory.now) ≡ true) }
 {
     let told = tables::breach(
         structures, members, programs, tags, others, names, tag_names, templates, memory,
     );
-    if let Told::Broken(b) = told {
-        say::fault(b"the tables are not valid: ");
-        wording::say(
-            STDERR_FILENO,
-            b,
-            structures,
-            members,
-            programs,
-            tags,
-            others,
-            names,
-            tag_names,
-        );
-        return false;
+    match told {
+        Told::Fine => Ok(true),
+        Told::Broken(b) => {
+            say::fault(err, b"the tables are not valid: ")?;
+            wording::say(
+                err, b, structures, members, programs, tags, others, names, tag_names,
+            )?;
+            Ok(false)
+        }
     }
-    true
 }
 
 /// Judges the tables for this tag memory, then serves them.
 fn start(
+    from: &mut impl Read,
+    to: &impl Print,
+    err: &impl Print,
     structures: &[[u32; 10]],
     members: &[[u32; 9]],
     programs: &[[u32; 2]],
@@ -291,20 +303,22 @@ fn start(
     flags: Flags,
     numbers: bool,
     memory: &mut [u8],
-) {
+) -> io::Result<()> {
     if !judged(
-        structures, members, programs, tags, others, names, tag_names, templates, memory,
-    ) {
-        return;
+        err, structures, members, programs, tags, others, names, tag_names, templates, memory,
+    )? {
+        return Ok(());
     }
     serve(
-        structures, members, programs, tags, others, names, tag_names, templates, flags, numbers,
-        memory,
-    );
+        from, to, structures, members, programs, tags, others, names, tag_names, templates, flags,
+        numbers, memory,
+    )
 }
 
 /// Lists the tables, and says what they break.
 fn list(
+    to: &impl Print,
+    err: &impl Print,
     structures: &[[u32; 10]],
     members: &[[u32; 9]],
     programs: &[[u32; 2]],
@@ -314,25 +328,21 @@ fn list(
     tag_names: &[u8],
     templates: &[u8],
     memory: &[u8],
-) {
+) -> io::Result<()> {
     shown::show(
-        STDOUT_FILENO,
-        structures,
-        members,
-        programs,
-        tags,
-        others,
-        names,
-        tag_names,
-        memory,
-    );
+        to, structures, members, programs, tags, others, names, tag_names, memory,
+    )?;
     judged(
-        structures, members, programs, tags, others, names, tag_names, templates, memory,
-    );
+        err, structures, members, programs, tags, others, names, tag_names, templates, memory,
+    )?;
+    Ok(())
 }
 
 /// Does with the tables what the options ask.
 pub fn open(
+    from: &mut impl Read,
+    to: &impl Print,
+    err: &impl Print,
     structures: &[[u32; 10]],
     members: &[[u32; 9]],
     programs: &[[u32; 2]],
@@ -344,15 +354,15 @@ pub fn open(
     flags: Flags,
     memory: &mut [u8],
     o: Options,
-) {
+) -> io::Result<()> {
     if o.tables {
-        list(
-            structures, members, programs, tags, others, names, tag_names, templates, memory,
+        return list(
+            to, err, structures, members, programs, tags, others, names, tag_names, templates,
+            memory,
         );
-        return;
     }
     start(
-        structures, members, programs, tags, others, names, tag_names, templates, flags, o.numbers,
-        memory,
-    );
+        from, to, err, structures, members, programs, tags, others, names, tag_names, templates,
+        flags, o.numbers, memory,
+    )
 }

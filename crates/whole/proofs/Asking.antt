@@ -17,7 +17,7 @@ use Rattle.laws.proofs.Chain.{by_test, clash}
 use Rattle.laws.proofs.Put.{put_then, put-none, take_put}
 use Rattle.laws.proofs.Tests.{both_true}
 use Rattle.definition.specs.Bytes.{le32, u32_at, counted}
-use Rattle.definition.specs.Reply.{Answer, answered, reply, room}
+use Rattle.definition.specs.Reply.{Answer, answered, room}
 use Rattle.definition.specs.Segment.{Segment, class, instance, symbol, step, kind_of, logical_at, sized_at, segment_at, segments_from, segments}
 use Rattle.definition.specs.Tables.{Tables, Flags}
 use Rattle.definition.specs.Lookup.{program_of}

@@ -6,6 +6,7 @@ pub mod name;
 pub mod out;
 mod words;
 
+use std::io;
 use tables::rules::{Breach, Told};
 
 // The tables by number, as `Breach` names them; tag memory and the template store have bytes and no rows.
@@ -25,16 +26,16 @@ pub const TAG_MEMORY: u32 = 6;
 
 pub const TEMPLATE_STORE: u32 = 7;
 
-fn show_table(fd: i32, table: u32) {
+fn show_table(to: &impl Print, table: u32) -> io::Result<()> {
     match table {
-        STRUCTURES => out::text(fd, b"structures, "),
-        MEMBERS => out::text(fd, b"members, "),
-        PROGRAMS => out::text(fd, b"programs, "),
-        TAGS => out::text(fd, b"tags, "),
-        OTHERS => out::text(fd, b"other symbols, "),
-        TAG_MEMORY => out::text(fd, b"tag memory, "),
-        TEMPLATE_STORE => out::text(fd, b"template store, "),
-        _ => out::text(fd, b"no table, "),
+        STRUCTURES => out::text(to, b"structures, "),
+        MEMBERS => out::text(to, b"members, "),
+        PROGRAMS => out::text(to, b"programs, "),
+        TAGS => out::text(to, b"tags, "),
+        OTHERS => out::text(to, b"other symbols, "),
+        TAG_MEMORY => out::text(to, b"tag memory, "),
+        TEMPLATE_STORE => out::text(to, b"template store, "),
+        _ => out::text(to, b"no table, "),
     }
 }
 
@@ -47,7 +48,7 @@ fn has_bytes(table: u32) -> bool {
 
 /// A row's number, and its name if it has one. The names of tags have a store of their own.
 fn show_row(
-    fd: i32,
+    to: &impl Print,
     table: u32,
     row: usize,
     structures: &[[u32; 10]],
@@ -57,22 +58,22 @@ fn show_row(
     others: &[[u32; 5]],
     names: &[u8],
     tag_names: &[u8],
-) {
-    out::text(fd, b"row ");
-    out::number(fd, row);
+) -> io::Result<()> {
+    out::text(to, b"row ")?;
+    out::number(to, row)?;
     match table {
-        STRUCTURES => name::show(fd, names, name::of_structure(structures, row)),
-        MEMBERS => name::show(fd, names, name::of_member(members, row)),
-        PROGRAMS => name::show(fd, names, name::of_program(programs, row)),
-        TAGS => name::show(fd, tag_names, name::of_tag(tags, row)),
-        OTHERS => name::show(fd, names, name::of_other(others, row)),
-        _ => {}
+        STRUCTURES => name::show(to, names, name::of_structure(structures, row)),
+        MEMBERS => name::show(to, names, name::of_member(members, row)),
+        PROGRAMS => name::show(to, names, name::of_program(programs, row)),
+        TAGS => name::show(to, tag_names, name::of_tag(tags, row)),
+        OTHERS => name::show(to, names, name::of_other(others, row)),
+        _ => Ok(()),
     }
 }
 
 /// Where the rule is broken.
 fn show_place(
-    fd: i32,
+    to: &impl Print,
     b: Breach,
     structures: &[[u32; 10]],
     members: &[[u32; 9]],
@@ -81,21 +82,20 @@ fn show_place(
     others: &[[u32; 5]],
     names: &[u8],
     tag_names: &[u8],
-) {
-    show_table(fd, b.table);
+) -> io::Result<()> {
+    show_table(to, b.table)?;
     if has_bytes(b.table) {
-        out::text(fd, b"byte ");
-        out::number(fd, b.row);
-        return;
+        out::text(to, b"byte ")?;
+        return out::number(to, b.row);
     }
     show_row(
-        fd, b.table, b.row, structures, members, programs, tags, others, names, tag_names,
-    );
+        to, b.table, b.row, structures, members, programs, tags, others, names, tag_names,
+    )
 }
 
 /// The row that it clashes with, if there is one; its table is named only where it is another one.
 fn show_clash(
-    fd: i32,
+    to: &impl Print,
     b: Breach,
     structures: &[[u32; 10]],
     members: &[[u32; 9]],
@@ -104,16 +104,16 @@ fn show_clash(
     others: &[[u32; 5]],
     names: &[u8],
     tag_names: &[u8],
-) {
+) -> io::Result<()> {
     if b.other_table == NO_TABLE {
-        return;
+        return Ok(());
     }
-    out::text(fd, b" ");
+    out::text(to, b" ")?;
     if b.other_table != b.table {
-        show_table(fd, b.other_table);
+        show_table(to, b.other_table)?;
     }
     show_row(
-        fd,
+        to,
         b.other_table,
         b.other,
         structures,
@@ -123,13 +123,13 @@ fn show_clash(
         others,
         names,
         tag_names,
-    );
-    words::behind(fd, b.rule, b.table);
+    )?;
+    words::behind(to, b.rule, b.table)
 }
 
-/// One line on a breach of these tables, to a descriptor.
+/// One line on a breach of these tables, to a stream.
 pub fn say(
-    fd: i32,
+    to: &impl Print,
     b: Breach,
     structures: &[[u32; 10]],
     members: &[[u32; 9]],
@@ -138,21 +138,21 @@ pub fn say(
     others: &[[u32; 5]],
     names: &[u8],
     tag_names: &[u8],
-) {
+) -> io::Result<()> {
     show_place(
-        fd, b, structures, members, programs, tags, others, names, tag_names,
-    );
-    out::text(fd, b": ");
-    words::of_rule(fd, b.rule, b.table, b.row);
+        to, b, structures, members, programs, tags, others, names, tag_names,
+    )?;
+    out::text(to, b": ")?;
+    words::of_rule(to, b.rule, b.table, b.row)?;
     show_clash(
-        fd, b, structures, members, programs, tags, others, names, tag_names,
-    );
-    out::text(fd, b"\n");
+        to, b, structures, members, programs, tags, others, names, tag_names,
+    )?;
+    out::text(to, b"\n")
 }
 
 /// One line on a table set: that it is valid, or where it breaks a rule first.
 pub fn tell(
-    fd: i32,
+    to: &impl Print,
     structures: &[[u32; 10]],
     members: &[[u32; 9]],
     programs: &[[u32; 2]],
@@ -162,14 +162,14 @@ pub fn tell(
     tag_names: &[u8],
     templates: &[u8],
     memory: &[u8],
-) {
+) -> io::Result<()> {
     let told = tables::breach(
         structures, members, programs, tags, others, names, tag_names, templates, memory,
     );
     match told {
-        Told::Fine => out::text(fd, b"valid\n"),
+        Told::Fine => out::text(to, b"valid\n"),
         Told::Broken(b) => say(
-            fd, b, structures, members, programs, tags, others, names, tag_names,
+            to, b, structures, members, programs, tags, others, names, tag_names,
         ),
     }
 }

@@ -2,6 +2,7 @@
 use crate::out;
 use cip::numbers::wide;
 use model::lookup::part_of;
+use std::io;
 
 /// The longest name that is one, of an other symbol with its prefix. A longer one is cut here, so that a wrong length does not fill the screen.
 const SHOWN: usize = 48;
@@ -78,30 +79,29 @@ pub fn of_other(others: &[[u32; 5]], row: usize) -> StoredName {
 }
 
 /// As much of a name as is shown.
-fn cut(fd: i32, name: &[u8]) {
+fn cut(to: &impl Print, name: &[u8]) -> io::Result<()> {
     if name.len() > SHOWN {
-        out::signs(fd, &name[..SHOWN]);
-        out::text(fd, b"..");
-        return;
+        out::signs(to, &name[..SHOWN])?;
+        return out::text(to, b"..");
     }
-    out::signs(fd, name);
+    out::signs(to, name)
 }
 
 /// A name as it is. One that does not stand in its store is shown as far as it does.
-pub fn plain(fd: i32, store: &[u8], p: StoredName) {
-    cut(fd, part_of(store, p.start, p.length));
+pub fn plain(to: &impl Print, store: &[u8], p: StoredName) -> io::Result<()> {
+    cut(to, part_of(store, p.start, p.length))
 }
 
 /// A name in quotes. An empty one is left out, and so is one that does not stand in its store, of which only a piece is there.
-pub fn show(fd: i32, store: &[u8], p: StoredName) {
+pub fn show(to: &impl Print, store: &[u8], p: StoredName) -> io::Result<()> {
     let name = part_of(store, p.start, p.length);
     if name.len() == 0 {
-        return;
+        return Ok(());
     }
     if name.len() < wide(p.length) {
-        return;
+        return Ok(());
     }
-    out::text(fd, b" \"");
-    cut(fd, name);
-    out::text(fd, b"\"");
+    out::text(to, b" \"")?;
+    cut(to, name)?;
+    out::text(to, b"\"")
 }

@@ -1,10 +1,12 @@
-// What is written, to standard output or standard error by its descriptor.
-pub fn text(fd: i32, s: &[u8]) {
-    io::write_all(fd, s);
+// What is written, to standard output or standard error by its handle.
+use std::io;
+
+pub fn text(to: &impl Print, s: &[u8]) -> io::Result<()> {
+    to.write_all(s)
 }
 
-pub fn number(fd: i32, n: usize) {
-    io::print_decimal(fd, n as u64);
+pub fn number(to: &impl Print, n: usize) -> io::Result<()> {
+    to.print(n)
 }
 
 fn digit(d: u8) -> u8 {
@@ -16,23 +18,24 @@ fn digit(d: u8) -> u8 {
 }
 
 /// A byte of a name as it is, or as `\xHH` where it is no sign that a line of text can show.
-fn sign(fd: i32, b: u8) {
+fn sign(to: &impl Print, b: u8) -> io::Result<()> {
     match b {
         0x20..=0x7E => {
             let shown = [b];
-            text(fd, &shown);
+            text(to, &shown)
         }
         _ => {
             let shown = [b'\\', b'x', digit(b / 16), digit(b % 16)];
-            text(fd, &shown);
+            text(to, &shown)
         }
     }
 }
 
-pub fn signs(fd: i32, s: &[u8]) {
+pub fn signs(to: &impl Print, s: &[u8]) -> io::Result<()> {
     let mut i = 0;
     while i < s.len() {
-        sign(fd, s[i]);
+        sign(to, s[i])?;
         i += 1;
     }
+    Ok(())
 }

@@ -2,28 +2,28 @@
 ghost use Rattle.std.specs.Prelude.{◌+◌, ◌*◌, ◌≤◌, length};
 
 use crate::{asked, hex, plant};
-use libc::STDOUT_FILENO;
+use std::io;
 use wording::out;
 
 /// Sends a message and shows it with its reply.
-fn send(memory: &mut [u8], request: &[u8]) {
+fn send(to: &impl Print, memory: &mut [u8], request: &[u8]) -> io::Result<()> {
     let mut buf = [0xEEu8; 110];
     let told = plant::message(memory, request, 100, &mut buf);
-    asked::show(request, 100, told, &buf);
+    asked::show(to, request, 100, told, &buf)
 }
 
 /// Bytes behind a word.
-fn show(word: &[u8], bytes: &[u8]) {
-    out::text(STDOUT_FILENO, word);
-    hex::bytes(bytes, bytes.len());
-    out::text(STDOUT_FILENO, b"\n");
+fn show(to: &impl Print, word: &[u8], bytes: &[u8]) -> io::Result<()> {
+    out::text(to, word)?;
+    hex::bytes(to, bytes, bytes.len())?;
+    out::text(to, b"\n")
 }
 
 /// The bytes of a target.
-fn left(memory: &[u8], start: usize, size: usize)
+fn left(to: &impl Print, memory: &[u8], start: usize, size: usize) -> io::Result<()>
     requires { start + size ≤ length memory.now }
 {
-    show(b"left", &memory[start..start + size]);
+    show(to, b"left", &memory[start..start + size])
 }
 
 /// The first request with the masks of the second joined to its own; the masks are the last bytes of both.
@@ -40,159 +40,191 @@ fn joined(first: &[u8], next: &[u8], size: usize) -> [u8; 40]
 }
 
 /// Two masked writes of so many bytes to a target that starts at a byte, one behind the other, and then one with their masks joined.
-fn row(first: &[u8], next: &[u8], start: usize, size: usize)
+fn row(to: &impl Print, first: &[u8], next: &[u8], start: usize, size: usize) -> io::Result<()>
     requires { (start + size ≤ 190) × (2 * size ≤ length first.now) × (2 * size ≤ length next.now) × (length first.now ≤ 40) }
 {
     let mut clicked = plant::MEMORY;
-    send(&mut clicked, first);
-    send(&mut clicked, next);
-    left(&clicked, start, size);
+    send(to, &mut clicked, first)?;
+    send(to, &mut clicked, next)?;
+    left(to, &clicked, start, size)?;
     let request = joined(first, next, size);
     let n = first.len();
     let mut single = plant::MEMORY;
-    send(&mut single, &request[..n]);
-    left(&single, start, size);
+    send(to, &mut single, &request[..n])?;
+    left(to, &single, start, size)?;
     if input::options::same(&clicked, &single) {
-        out::text(STDOUT_FILENO, b"the same memory\n");
-        return;
+        return out::text(to, b"the same memory\n");
     }
-    out::text(STDOUT_FILENO, b"another memory\n");
+    out::text(to, b"another memory\n")
 }
 
 /// The page's rows: `Count` five times, once by its instance ID; `Rows` and `Rows[0]`; `Grid`; `Step` in two spellings.
-pub fn rows() {
+pub fn rows(to: &impl Print) -> io::Result<()> {
     row(
+        to,
         b"\x4E\x04\x91\x05Count\x00\x04\x00\x01\x00\x00\x00\x0F\x00\x00\x00",
         b"\x4E\x04\x91\x05Count\x00\x04\x00\xF0\x00\x00\x00\xFF\x00\x00\x00",
         0,
         4,
-    );
+    )?;
     row(
+        to,
         b"\x4E\x04\x91\x05Count\x00\x04\x00\x00\x00\x00\x00\x00\x00\x00\x00",
         b"\x4E\x04\x91\x05Count\x00\x04\x00\x80\x00\x00\x01\xFF\xFF\xFF\xFF",
         0,
         4,
-    );
+    )?;
     row(
+        to,
         b"\x4E\x04\x91\x05Count\x00\x04\x00\xFF\xFF\xFF\xFF\xFF\xFF\xFF\xFF",
         b"\x4E\x04\x91\x05Count\x00\x04\x00\x00\x00\x00\x00\x00\xFF\x00\xFF",
         0,
         4,
-    );
+    )?;
     row(
+        to,
         b"\x4E\x04\x91\x05Count\x00\x04\x00\x00\x00\x00\x00\xFF\xFF\xFF\xFF",
         b"\x4E\x04\x91\x05Count\x00\x04\x00\x00\x00\x00\x00\xFF\xFF\xFF\xFF",
         0,
         4,
-    );
+    )?;
     row(
+        to,
         b"\x4E\x04\x91\x05Count\x00\x04\x00\x04\x00\x00\x00\xFB\xFF\xFF\xFF",
         b"\x4E\x02\x20\x6B\x24\x01\x04\x00\x05\x00\x00\x00\xFE\xFF\xFF\xFF",
         0,
         4,
-    );
+    )?;
     row(
+        to,
         b"\x4E\x03\x91\x04Rows\x04\x00\x10\x20\x00\x00\xF0\xFF\xFF\xFF",
         b"\x4E\x04\x91\x04Rows\x28\x00\x04\x00\x00\x00\x00\x80\xFF\x0F\xFF\xFF",
         4,
         4,
-    );
+    )?;
     row(
+        to,
         b"\x4E\x03\x91\x04Grid\x02\x00\x00\x01\xF0\xFF",
         b"\x4E\x03\x91\x04Grid\x02\x00\x0F\x00\x3F\xFF",
         48,
         2,
-    );
+    )?;
     row(
+        to,
         b"\x4E\x0A\x91\x0CProgram:Main\x91\x04Step\x02\x00\x08\x00\xFF\xFF",
         b"\x4E\x0A\x91\x0CPROGRAM:main\x91\x04STEP\x02\x00\x00\x00\xF8\xFF",
         188,
         2,
-    );
+    )
 }
 
 /// A write between the two changes tag memory, and the row is none; a masked write that is not accepted leaves the first one's bytes.
-pub fn no_rows() {
+pub fn no_rows(to: &impl Print) -> io::Result<()> {
     let mut memory = plant::MEMORY;
     send(
+        to,
         &mut memory,
         b"\x4E\x04\x91\x05Count\x00\x04\x00\x01\x00\x00\x00\x0F\x00\x00\x00",
-    );
+    )?;
     send(
+        to,
         &mut memory,
         b"\x4D\x04\x91\x05Count\x00\xC4\x00\x01\x00\x0F\x00\x00\x00",
-    );
+    )?;
     send(
+        to,
         &mut memory,
         b"\x4E\x04\x91\x05Count\x00\x04\x00\xF0\x00\x00\x00\xFF\x00\x00\x00",
-    );
-    left(&memory, 0, 4);
+    )?;
+    left(to, &memory, 0, 4)?;
     let mut shorter = plant::MEMORY;
     send(
+        to,
         &mut shorter,
         b"\x4E\x04\x91\x05Count\x00\x04\x00\x01\x00\x00\x00\x0F\x00\x00\x00",
-    );
+    )?;
     send(
+        to,
         &mut shorter,
         b"\x4E\x04\x91\x05Count\x00\x04\x00\xF0\x00\x00\x00\xFF\x00\x00",
-    );
-    left(&shorter, 0, 4);
+    )?;
+    left(to, &shorter, 0, 4)
 }
 
 /// Two pairs of masks of four bytes joined.
-fn pairs(ors: [u8; 4], ands: [u8; 4], next_ors: &[u8], next_ands: &[u8]) {
+fn pairs(
+    to: &impl Print,
+    ors: [u8; 4],
+    ands: [u8; 4],
+    next_ors: &[u8],
+    next_ands: &[u8],
+) -> io::Result<()> {
     let mut joined_ors = ors;
     let mut joined_ands = ands;
     if writes::masks::join_masks(&mut joined_ors, &mut joined_ands, next_ors, next_ands) {
-        show(b"joined OR", &joined_ors);
-        show(b"joined AND", &joined_ands);
-        return;
+        show(to, b"joined OR", &joined_ors)?;
+        return show(to, b"joined AND", &joined_ands);
     }
-    show(b"not joined OR", &joined_ors);
-    show(b"not joined AND", &joined_ands);
+    show(to, b"not joined OR", &joined_ors)?;
+    show(to, b"not joined AND", &joined_ands)
 }
 
 /// Masks alone: the first rows; an OR mask that the first AND mask does not narrow; masks of different lengths, which stay as they were.
-pub fn masks() {
+pub fn masks(to: &impl Print) -> io::Result<()> {
     pairs(
+        to,
         *b"\x01\x00\x00\x00",
         *b"\x0F\x00\x00\x00",
         b"\xF0\x00\x00\x00",
         b"\xFF\x00\x00\x00",
-    );
+    )?;
     pairs(
+        to,
         *b"\x00\x00\x00\x00",
         *b"\x00\x00\x00\x00",
         b"\x80\x00\x00\x01",
         b"\xFF\xFF\xFF\xFF",
-    );
+    )?;
     pairs(
+        to,
         *b"\xFF\x00\x00\x00",
         *b"\x00\x00\x00\x00",
         b"\x00\x00\x00\x00",
         b"\xFF\xFF\xFF\xFF",
-    );
+    )?;
     pairs(
+        to,
         *b"\x01\x02\x03\x04",
         *b"\x05\x06\x07\x08",
         b"\xF0\xF0\xF0\xF0",
         b"\xFF\xFF\xFF",
-    );
+    )
 }
 
 /// Whole requests, as the simulator joins them: to one path, to a path in other bytes, and one that is cut short.
-fn request(next: &[u8]) {
+fn request(to: &impl Print, next: &[u8]) -> io::Result<()> {
     let mut joined = *b"\x4E\x04\x91\x05Count\x00\x04\x00\x01\x00\x00\x00\x0F\x00\x00\x00";
     if input::clicks::join(&mut joined, next) {
-        show(b"one request", &joined);
-        return;
+        return show(to, b"one request", &joined);
     }
-    show(b"not joined", next);
+    show(to, b"not joined", next)
 }
 
-pub fn requests() {
-    request(b"\x4E\x04\x91\x05Count\x00\x04\x00\xF0\x00\x00\x00\xFF\x00\x00\x00");
-    request(b"\x4E\x04\x91\x05COUNT\x00\x04\x00\xF0\x00\x00\x00\xFF\x00\x00\x00");
-    request(b"\x4E\x04\x91\x05Count\x00\x04\x00\xF0\x00\x00\x00\xFF\x00\x00");
-    request(b"\x4D\x04\x91\x05Count\x00\xC4\x00\x01\x00\x0F\x00\x00\x00");
+pub fn requests(to: &impl Print) -> io::Result<()> {
+    request(
+        to,
+        b"\x4E\x04\x91\x05Count\x00\x04\x00\xF0\x00\x00\x00\xFF\x00\x00\x00",
+    )?;
+    request(
+        to,
+        b"\x4E\x04\x91\x05COUNT\x00\x04\x00\xF0\x00\x00\x00\xFF\x00\x00\x00",
+    )?;
+    request(
+        to,
+        b"\x4E\x04\x91\x05Count\x00\x04\x00\xF0\x00\x00\x00\xFF\x00\x00",
+    )?;
+    request(
+        to,
+        b"\x4D\x04\x91\x05Count\x00\xC4\x00\x01\x00\x0F\x00\x00\x00",
+    )
 }

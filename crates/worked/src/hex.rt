@@ -1,16 +1,17 @@
 // Bytes as they are written in document 02.
-use cip::numbers;
-use libc::STDOUT_FILENO;
+use std::io;
 use wording::out;
 
 /// The first n bytes, two digits each, with a space before each.
-pub fn bytes(s: &[u8], n: usize) {
+pub fn bytes(to: &impl Print, s: &[u8], n: usize) -> io::Result<()> {
     let mut i = 0;
     while i < s.len() {
         if i < n {
-            out::text(STDOUT_FILENO, b" ");
-            io::print_hex(STDOUT_FILENO, numbers::long8(s[i]), 2);
+            let b = s[i];
+            out::text(to, b" ")?;
+            print!(to; "{b:02x}")?;
         }
         i += 1;
     }
+    Ok(())
 }

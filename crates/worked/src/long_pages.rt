@@ -1,5 +1,6 @@
 // P2: pages and attributes of symbols with long names.
 use crate::asked;
+use std::io;
 
 /// A page of all symbols of the controller from ID 0 on, with their names.
 const FROM_START: [u8; 10] = [0x55, 0x02, 0x20, 0x6B, 0x24, 0x00, 0x01, 0x00, 0x01, 0x00];
@@ -20,13 +21,14 @@ const COUNT: [u8; 5] = *b"Count";
 
 /// Sends a request and shows it and its reply.
 fn send(
+    to: &impl Print,
     programs: &[[u32; 2]],
     tags: &[[u32; 12]],
     others: &[[u32; 5]],
     names: &[u8],
     request: &[u8],
     limit: usize,
-) {
+) -> io::Result<()> {
     let structures = [[0u32; 10]; 0];
     let members = [[0u32; 9]; 0];
     let tag_names = COUNT;
@@ -48,39 +50,39 @@ fn send(
         limit,
         &mut buf,
     );
-    asked::show(request, limit, told, &buf);
+    asked::show(to, request, limit, told, &buf)
 }
 
 /// A program of 36 letters and its other symbol, ID 9; no tag.
-fn hall(request: &[u8], limit: usize) {
+fn hall(to: &impl Print, request: &[u8], limit: usize) -> io::Result<()> {
     let programs = [[8, 36]];
     let tags = [[0u32; 12]; 0];
     let others = [[0, 0, 44, 9, 0x1068]];
     let names = HALL_NAMES;
-    send(&programs, &tags, &others, &names, request, limit);
+    send(to, &programs, &tags, &others, &names, request, limit)
 }
 
-pub fn bottling_hall() {
+pub fn bottling_hall(to: &impl Print) -> io::Result<()> {
     let page = FROM_START;
-    hall(&page, 54);
-    hall(&page, 53);
+    hall(to, &page, 54)?;
+    hall(to, &page, 53)?;
     let attribute = ATTRIBUTE;
-    hall(&attribute, 100);
+    hall(to, &attribute, 100)
 }
 
 /// `Task:`, ID 3; the tag `Count`, ID 5; `Program:` and 40 letters, ID 9.
-fn three(request: &[u8], limit: usize) {
+fn three(to: &impl Print, request: &[u8], limit: usize) -> io::Result<()> {
     let programs = [[0u32; 2]; 0];
     let tags = [[0, 0, 5, 5, 0xC4, 0, 0, 0, 1, 0, 0, 0]];
     let others = [[0, 0, 5, 3, 0x1070], [0, 5, 48, 9, 0x1068]];
     let names = TASK_NAMES;
-    send(&programs, &tags, &others, &names, request, limit);
+    send(to, &programs, &tags, &others, &names, request, limit)
 }
 
-pub fn tasks() {
+pub fn tasks(to: &impl Print) -> io::Result<()> {
     let page = FROM_START;
-    three(&page, 58);
+    three(to, &page, 58)?;
     let rest = FROM_SIX;
-    three(&rest, 58);
-    three(&rest, 57);
+    three(to, &rest, 58)?;
+    three(to, &rest, 57)
 }

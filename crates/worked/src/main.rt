@@ -10,21 +10,24 @@ mod one_read;
 mod path_steps;
 mod plant;
 
-fn main() {
-    long_names::other_symbols();
-    long_names::other_tables();
-    long_pages::bottling_hall();
-    long_pages::tasks();
-    path_steps::taken();
-    path_steps::refused();
-    path_steps::symbols();
-    path_steps::ports();
-    one_read::fields();
-    one_read::continued();
-    one_read::replaced();
-    one_read::again();
-    clicks::rows();
-    clicks::no_rows();
-    clicks::masks();
-    clicks::requests();
+use std::io;
+
+fn main(rt: HostRuntime) -> io::Result<()> {
+    let to = rt.stdout();
+    long_names::other_symbols(&to)?;
+    long_names::other_tables(&to)?;
+    long_pages::bottling_hall(&to)?;
+    long_pages::tasks(&to)?;
+    path_steps::taken(&to)?;
+    path_steps::refused(&to)?;
+    path_steps::symbols(&to)?;
+    path_steps::ports(&to)?;
+    one_read::fields(&to)?;
+    one_read::continued(&to)?;
+    one_read::replaced(&to)?;
+    one_read::again(&to)?;
+    clicks::rows(&to)?;
+    clicks::no_rows(&to)?;
+    clicks::masks(&to)?;
+    clicks::requests(&to)
 }

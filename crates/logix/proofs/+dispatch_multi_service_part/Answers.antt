@@ -1,5 +1,5 @@
 -- `logix::dispatch`, `multi_service` and `part` meet their contracts: one proof for the cycle of calls. Assumes nothing.
-use Rattle.std.proofs.Common.{rules, refl, sym, ◌∙◌, arith, le_antisymm}
+use Rattle.std.proofs.Common.{rules, refl, arith, le_antisymm}
 use Rattle.std.proofs.lemmas.Bool.{not_from_true, not_from_false}
 use Rattle.logix.proofs.Going.{going_start, going_more, going_end}
 use Rattle.logix.proofs.Offsets.{has_parts}

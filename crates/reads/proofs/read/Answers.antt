@@ -5,10 +5,10 @@ use Rattle.reads.proofs.read.Goals as goal
 
 pub send_selected-requires : goal.send_selected-requires
 send_selected-requires c = (
-      c.requires.0,
-      granted-few c.args.g.bit c.args.g.count _ _ c.requires.0.some_elements c.ask_of.ensures c.in-Granted.is,
-      omega arith,
-    )
+  c.requires.0,
+  granted-few c.args.g.bit c.args.g.count _ _ c.requires.0.some_elements c.ask_of.ensures c.in-Granted.is,
+  omega arith,
+)
 
 pub returns-in-Granted : goal.returns-in-Granted
 returns-in-Granted c =

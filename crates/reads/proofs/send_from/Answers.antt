@@ -28,10 +28,10 @@ put_fragment-used-requires c = (
 
 pub finish-requires : goal.finish-requires
 finish-requires c = (
-      fragment_used _ _ _ _ _ _ _ _ _ _ c.requires.0 c.if-size-q.false c.header_size.ensures c.space_of-s.ensures
-          c.size_of-n.ensures c.chunk-bytes.ensures _ _ _ c.status_of.ensures _ _ _ c.put_fragment-used.ensures,
-      omega (arith, c.put_fragment-used.auto),
-    )
+  fragment_used _ _ _ _ _ _ _ _ _ _ c.requires.0 c.if-size-q.false c.header_size.ensures c.space_of-s.ensures
+      c.size_of-n.ensures c.chunk-bytes.ensures _ _ _ c.status_of.ensures _ _ _ c.put_fragment-used.ensures,
+  omega (arith, c.put_fragment-used.auto),
+)
 
 pub returns : goal.returns
 returns c =

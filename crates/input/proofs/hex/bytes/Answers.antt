@@ -25,12 +25,12 @@ returns-then-n-request c =
 
 pub loop-at-preserved : goal.loop-at-preserved
 loop-at-preserved c = (
-      search rules,
-      search rules,
-      simp length-set c.loop-at.invariant.2,
-      going_more _ _ _ _ _ _ _ c.loop-at.invariant.3 _ (search rules) (search rules) c.pair-b.ensures _ _ (search rules)
-          (search rules) c.loop-at.invariant.2 refl c.scan-at-in-loop-at.ensures.2,
-    )
+  search rules,
+  search rules,
+  simp length-set c.loop-at.invariant.2,
+  going_more _ _ _ _ _ _ _ c.loop-at.invariant.3 _ (search rules) (search rules) c.pair-b.ensures _ _ (search rules)
+      (search rules) c.loop-at.invariant.2 refl c.scan-at-in-loop-at.ensures.2,
+)
 
 pub returns : goal.returns
 returns c =

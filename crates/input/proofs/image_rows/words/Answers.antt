@@ -12,10 +12,10 @@ loop-j-init c = (search rules, refl, no_words _ _)
 
 pub loop-j-preserved : goal.loop-j-preserved
 loop-j-preserved c = (
-      search rules,
-      simp length-set c.loop-j.invariant.1,
-      word_filled _ _ _ _ _ _ c.loop-j.invariant.2 (search rules) c.u32_at.ensures refl,
-    )
+  search rules,
+  simp length-set c.loop-j.invariant.1,
+  word_filled _ _ _ _ _ _ c.loop-j.invariant.2 (search rules) c.u32_at.ensures refl,
+)
 
 pub returns : goal.returns
 returns c =

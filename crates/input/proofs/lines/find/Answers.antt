@@ -11,10 +11,10 @@ returns-then-input-i c =
 
 pub loop-i-preserved : goal.loop-i-preserved
 loop-i-preserved c = (
-      search rules,
-      search rules,
-      stretch_next _ _ _ _ c.loop-i.invariant.2 (search rules) refl (ne_eqb _ _ c.if-input-i.false) refl,
-    )
+  search rules,
+  search rules,
+  stretch_next _ _ _ _ c.loop-i.invariant.2 (search rules) refl (ne_eqb _ _ c.if-input-i.false) refl,
+)
 
 pub returns : goal.returns
 returns c = (search rules, search rules, stretch_end _ _ _ _ c.loop-i.invariant.2 (search rules))

@@ -10,11 +10,11 @@ loop-i-init c = (search rules, search rules, refl, moved_none c.args.input.now c
 
 pub loop-i-preserved : goal.loop-i-preserved
 loop-i-preserved c = (
-      search rules,
-      search rules,
-      simp length-set c.loop-i.invariant.2,
-      moved_more _ _ _ _ _ c.loop-i.invariant.3 (search rules) (search rules) refl,
-    )
+  search rules,
+  search rules,
+  simp length-set c.loop-i.invariant.2,
+  moved_more _ _ _ _ _ c.loop-i.invariant.3 (search rules) (search rules) refl,
+)
 
 pub returns : goal.returns
 returns c =

@@ -10,9 +10,9 @@ returns-in_default c =
 
 pub list_size-requires : goal.list_size-requires
 list_size-requires c = (
-      omega (arith, c.wide16-n.ensures, count_fits c.args.body.now _ (sym c.in-Of.is ∙ c.count_of.ensures)),
-      search rules,
-    )
+  omega (arith, c.wide16-n.ensures, count_fits c.args.body.now _ (sym c.in-Of.is ∙ c.count_of.ensures)),
+  search rules,
+)
 
 pub returns-then-limit-list_size : goal.returns-then-limit-list_size
 returns-then-limit-list_size c =
@@ -21,11 +21,11 @@ returns-then-limit-list_size c =
 
 pub send_list-requires : goal.send_list-requires
 send_list-requires c = (
-      omega (arith, c.wide16-n.ensures, count_fits c.args.body.now _ (sym c.in-Of.is ∙ c.count_of.ensures)),
-      search rules,
-      search rules,
-      omega (arith, c.list_size.ensures, c.if-limit-list_size.false),
-    )
+  omega (arith, c.wide16-n.ensures, count_fits c.args.body.now _ (sym c.in-Of.is ∙ c.count_of.ensures)),
+  search rules,
+  search rules,
+  omega (arith, c.list_size.ensures, c.if-limit-list_size.false),
+)
 
 pub returns : goal.returns
 returns c =

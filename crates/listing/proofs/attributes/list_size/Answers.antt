@@ -14,11 +14,11 @@ overflow_add-used-in-loop-i c = let h = value_short c.object_value.result in sea
 
 pub loop-i-preserved : goal.loop-i-preserved
 loop-i-preserved c = (
-      search rules,
-      omega (arith, c.value_size.ensures, value_short c.object_value.result),
-      entries-size c.args.o c.args.body.now c.loop-i.i c.u16_at-number.result c.object_value.result c.u16_at-number.ensures
-          c.object_value.ensures 6 _ _ c.loop-i.invariant.2 c.value_size.ensures,
-    )
+  search rules,
+  omega (arith, c.value_size.ensures, value_short c.object_value.result),
+  entries-size c.args.o c.args.body.now c.loop-i.i c.u16_at-number.result c.object_value.result c.u16_at-number.ensures
+      c.object_value.ensures 6 _ _ c.loop-i.invariant.2 c.value_size.ensures,
+)
 
 pub returns : goal.returns
 returns c =

@@ -42,8 +42,8 @@ loop-i-preserved c = (
 
 pub returns : goal.returns
 returns c = (
-      c.loop-i.invariant.1 ∙ ap (λ (k : ℕ). c.args.at + length (entries_to c.args.o c.args.body.now k))
-          (le_antisymm c.loop-i.invariant.0 c.loop-i-test.false),
-      c.loop-i.invariant.2 ∙ ap (λ (k : ℕ). put c.args.buf.now c.args.at (entries_to c.args.o c.args.body.now k))
-          (le_antisymm c.loop-i.invariant.0 c.loop-i-test.false),
-    )
+  c.loop-i.invariant.1 ∙ ap (λ (k : ℕ). c.args.at + length (entries_to c.args.o c.args.body.now k))
+      (le_antisymm c.loop-i.invariant.0 c.loop-i-test.false),
+  c.loop-i.invariant.2 ∙ ap (λ (k : ℕ). put c.args.buf.now c.args.at (entries_to c.args.o c.args.body.now k))
+      (le_antisymm c.loop-i.invariant.0 c.loop-i-test.false),
+)

@@ -18,7 +18,7 @@ returns-then-number-eq8 c = (
 
 pub returns : goal.returns
 returns c = (
-      other_length_lem c.args.name.now c.args.s c.args.number c.symbol_value.result c.if-number-eq1.false
-          c.if-number-eq8.false c.symbol_value.ensures _ c.value_size.ensures,
-      omega (arith, c.value_size.ensures, value_short c.symbol_value.result),
-    )
+  other_length_lem c.args.name.now c.args.s c.args.number c.symbol_value.result c.if-number-eq1.false
+      c.if-number-eq8.false c.symbol_value.ensures _ c.value_size.ensures,
+  omega (arith, c.value_size.ensures, value_short c.symbol_value.result),
+)

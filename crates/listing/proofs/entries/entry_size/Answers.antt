@@ -13,11 +13,11 @@ loop-i-init c = (
 
 pub loop-i-preserved : goal.loop-i-preserved
 loop-i-preserved c = (
-      search rules,
-      omega (arith, c.attribute_size-used.ensures.1, c.loop-i.invariant.1),
-      attributes_size (made c.args.name.now c.args.s) c.args.body.now c.loop-i.i c.u16_at-number.result c.u16_at-number.ensures
-          4 _ _ c.loop-i.invariant.2 c.attribute_size-used.ensures.0,
-    )
+  search rules,
+  omega (arith, c.attribute_size-used.ensures.1, c.loop-i.invariant.1),
+  attributes_size (made c.args.name.now c.args.s) c.args.body.now c.loop-i.i c.u16_at-number.result c.u16_at-number.ensures
+      4 _ _ c.loop-i.invariant.2 c.attribute_size-used.ensures.0,
+)
 
 pub returns : goal.returns
 returns c =

@@ -44,10 +44,10 @@ loop-i-preserved c = (
 
 pub returns : goal.returns
 returns c = (
-      c.loop-i.invariant.1 ∙ ap
-          (λ (k : ℕ). c.args.at + length (attributes_to (made c.args.name.now c.args.s) c.args.body.now k))
-          (le_antisymm c.loop-i.invariant.0 c.loop-i-test.false),
-      c.loop-i.invariant.2 ∙ ap (λ (k : ℕ). put c.args.buf.now c.args.at
-          (attributes_to (made c.args.name.now c.args.s) c.args.body.now k))
-          (le_antisymm c.loop-i.invariant.0 c.loop-i-test.false),
-    )
+  c.loop-i.invariant.1 ∙ ap
+      (λ (k : ℕ). c.args.at + length (attributes_to (made c.args.name.now c.args.s) c.args.body.now k))
+      (le_antisymm c.loop-i.invariant.0 c.loop-i-test.false),
+  c.loop-i.invariant.2 ∙ ap (λ (k : ℕ). put c.args.buf.now c.args.at
+      (attributes_to (made c.args.name.now c.args.s) c.args.body.now k))
+      (le_antisymm c.loop-i.invariant.0 c.loop-i-test.false),
+)

@@ -7,14 +7,14 @@ use Rattle.listing.proofs.pages.entry_step.Goals as goal
 
 pub returns-then-limit-used : goal.returns-then-limit-used
 returns-then-limit-used c = (
-      left_out (omega (
-        arith,
-        c.entry_size-size.ensures,
-        bytes_long (made c.args.name.now c.args.s) (numbers c.args.n (drop 2 c.args.body.now)) c.args.s.id,
-        c.if-limit-used.true,
-      )) refl,
-      tt,
-    )
+  left_out (omega (
+    arith,
+    c.entry_size-size.ensures,
+    bytes_long (made c.args.name.now c.args.s) (numbers c.args.n (drop 2 c.args.body.now)) c.args.s.id,
+    c.if-limit-used.true,
+  )) refl,
+  tt,
+)
 
 pub returns : goal.returns
 returns c =

@@ -121,26 +121,26 @@ entry_step-requires-in-Other c = (
 
 pub returns-in-Tag : goal.returns-in-Tag
 returns-in-Tag c = (
-      λ o m v. tag_step c.args.structures.now c.args.tags.now c.args.others.now c.args.names.now
-          c.args.tag_names.now c.args.scope c.args.bound _ c.next_near.ensures o m v
-          (numbers c.args.n (drop 2 c.args.body.now)) _ _ _ _ _ c.tag_symbol.result _ _ _ c.in-Tag.is
-          c.part_of-name.ensures c.tag_symbol.ensures c.entry_step.ensures.0,
-      c.entry_step.ensures.1,
-    )
+  λ o m v. tag_step c.args.structures.now c.args.tags.now c.args.others.now c.args.names.now
+      c.args.tag_names.now c.args.scope c.args.bound _ c.next_near.ensures o m v
+      (numbers c.args.n (drop 2 c.args.body.now)) _ _ _ _ _ c.tag_symbol.result _ _ _ c.in-Tag.is
+      c.part_of-name.ensures c.tag_symbol.ensures c.entry_step.ensures.0,
+  c.entry_step.ensures.1,
+)
 
 pub returns-in-Other : goal.returns-in-Other
 returns-in-Other c = (
-      λ o m v. other_step c.args.structures.now c.args.tags.now c.args.others.now c.args.names.now
-          c.args.tag_names.now c.args.scope c.args.bound _ c.next_near.ensures o m v
-          (numbers c.args.n (drop 2 c.args.body.now)) _ _ _ _ _ c.other_symbol.result _ _ _ c.in-Other.is
-          c.part_of-name-in-Other.ensures c.other_symbol.ensures c.entry_step-in-Other.ensures.0,
-      c.entry_step-in-Other.ensures.1,
-    )
+  λ o m v. other_step c.args.structures.now c.args.tags.now c.args.others.now c.args.names.now
+      c.args.tag_names.now c.args.scope c.args.bound _ c.next_near.ensures o m v
+      (numbers c.args.n (drop 2 c.args.body.now)) _ _ _ _ _ c.other_symbol.result _ _ _ c.in-Other.is
+      c.part_of-name-in-Other.ensures c.other_symbol.ensures c.entry_step-in-Other.ensures.0,
+  c.entry_step-in-Other.ensures.1,
+)
 
 pub returns-in-Nothing : goal.returns-in-Nothing
 returns-in-Nothing c = (
-      λ o m v. none_step c.args.structures.now c.args.tags.now c.args.others.now c.args.names.now
-          c.args.tag_names.now c.args.scope c.args.bound _ c.next_near.ensures o m v
-          (numbers c.args.n (drop 2 c.args.body.now)) _ _ _ c.in-Nothing.is,
-      tt,
-    )
+  λ o m v. none_step c.args.structures.now c.args.tags.now c.args.others.now c.args.names.now
+      c.args.tag_names.now c.args.scope c.args.bound _ c.next_near.ensures o m v
+      (numbers c.args.n (drop 2 c.args.body.now)) _ _ _ c.in-Nothing.is,
+  tt,
+)

@@ -22,11 +22,11 @@ all_listed-requires c =
 
 pub put_page-requires : goal.put_page-requires
 put_page-requires c = (
-      page_valid _ _ _ _ _ _ c.requires.1,
-      omega (arith, c.wide16-n.ensures, count_fits c.args.body.now _ (sym c.in-Of.is ∙ c.count_of.ensures)),
-      search rules,
-      search rules,
-    )
+  page_valid _ _ _ _ _ _ c.requires.1,
+  omega (arith, c.wide16-n.ensures, count_fits c.args.body.now _ (sym c.in-Of.is ∙ c.count_of.ensures)),
+  search rules,
+  search rules,
+)
 
 pub returns-then-all_listed : goal.returns-then-all_listed
 returns-then-all_listed c =

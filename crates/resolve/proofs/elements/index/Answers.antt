@@ -16,11 +16,11 @@ position-requires c =
 
 pub elements_from-requires : goal.elements_from-requires
 elements_from-requires c = (
-      position_counted _ c.args.g c.requires (values_of c.args.run) c.if-lengths-eq0.false _ c.inside.ensures
-          c.if-inside.true _ c.position.ensures,
-      position_within _ c.args.g c.requires (values_of c.args.run) c.if-lengths-eq0.false _ c.inside.ensures
-          c.if-inside.true _ c.position.ensures,
-    )
+  position_counted _ c.args.g c.requires (values_of c.args.run) c.if-lengths-eq0.false _ c.inside.ensures
+      c.if-inside.true _ c.position.ensures,
+  position_within _ c.args.g c.requires (values_of c.args.run) c.if-lengths-eq0.false _ c.inside.ensures
+      c.if-inside.true _ c.position.ensures,
+)
 
 pub returns-then-inside : goal.returns-then-inside
 returns-then-inside c = search index_laws

@@ -9,9 +9,9 @@ tag_target-requires c = (c.requires.0, some-valid _ _ _ c.requires.1 refl)
 
 pub serve-requires : goal.serve-requires
 serve-requires c = (
-      tag_aimed _ _ _ _ _ c.requires.1 c.requires.0 _ _ c.in-Found.is c.tag_target.ensures,
-      c.requires.2,
-    )
+  tag_aimed _ _ _ _ _ c.requires.1 c.requires.0 _ _ c.in-Found.is c.tag_target.ensures,
+  c.requires.2,
+)
 
 pub returns-in-Found : goal.returns-in-Found
 returns-in-Found c =

@@ -18,11 +18,11 @@ loop-j-init c = (
 
 pub loop-j-preserved : goal.loop-j-preserved
 loop-j-preserved c = (
-      or_turn c.args.masks.now c.args.at c.args.next.now c.requires _ _ c.loop-j.invariant.0 _ _
-          c.loop-j-test.true refl refl,
-      search rules,
-      simp length-set c.loop-j.invariant.2,
-    )
+  or_turn c.args.masks.now c.args.at c.args.next.now c.requires _ _ c.loop-j.invariant.0 _ _
+      c.loop-j-test.true refl refl,
+  search rules,
+  simp length-set c.loop-j.invariant.2,
+)
 
 pub shape_of-masks : goal.shape_of-masks
 shape_of-masks c = c.loop-j.invariant.2

@@ -18,11 +18,11 @@ loop-j-init c = (
 
 pub loop-j-preserved : goal.loop-j-preserved
 loop-j-preserved c = (
-      mask_turn c.args.memory.now c.args.at c.args.ors.now c.args.ands.now
-          c.requires.0 c.requires.1 _ _ c.loop-j.invariant.0 _ _ c.loop-j-test.true c.mask_byte.ensures refl,
-      search rules,
-      simp length-set c.loop-j.invariant.2,
-    )
+  mask_turn c.args.memory.now c.args.at c.args.ors.now c.args.ands.now
+      c.requires.0 c.requires.1 _ _ c.loop-j.invariant.0 _ _ c.loop-j-test.true c.mask_byte.ensures refl,
+  search rules,
+  simp length-set c.loop-j.invariant.2,
+)
 
 pub shape_of-memory : goal.shape_of-memory
 shape_of-memory c = c.loop-j.invariant.2
