@@ -1,6 +1,6 @@
 /* Reads the array `Rows` of the pallet bench by a continued read, and again by ciplink_t_read_whole, lists the symbols, sends two
  * clicks on `Count` as one masked write, and prints it all. examples/build makes it; by hand, from the root of the repository:
- *   rt staticlib ciplink && cc -I crates/ciplink examples/pallet.c target/staticlib/libciplink.a -o target/pallet && target/pallet */
+ *   examples/build library && cc -I crates/ciplink examples/pallet.c target/staticlib/libciplink.a -o target/pallet && target/pallet */
 #include <stdio.h>
 #include <string.h>
 

@@ -1,6 +1,6 @@
 // The same host as examples/pallet.c, in Rust, with no crate: reads the array `Rows` of the pallet bench by a continued read, and
 // again by ciplink_read_whole, lists the symbols, sends two clicks on `Count` as one masked write, and prints it all. examples/build makes it; by hand, from the root of the repository:
-//   rt staticlib ciplink && rustc -O examples/pallet.rs -L target/staticlib -l static=ciplink -o target/pallet-rs && target/pallet-rs
+//   examples/build library && rustc -O examples/pallet.rs -L target/staticlib -l static=ciplink -o target/pallet-rs && target/pallet-rs
 
 /// A row of 32-bit words, as in ciplink.h.
 type Row<const N: usize> = [u32; N];

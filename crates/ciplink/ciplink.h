@@ -1,6 +1,6 @@
 /* ciplink: the tag services of a simulated Logix controller, proved equal to their definition.
  *
- * Link target/staticlib/libciplink.a, which `rt staticlib ciplink` writes (x86-64 Linux). The functions keep nothing between
+ * Link target/staticlib/libciplink.a, which `examples/build library` writes (x86-64 Linux). The functions keep nothing between
  * two calls, allocate nothing and may run in several threads at once, each on tag memory and a reply buffer of its own.
  *
  * The stack that a call takes, in KiB: the most that oracle/stack measured with the largest tables, and a sixth more, since what
