@@ -1,4 +1,4 @@
-//! The entry points of `crates/ciplink`, linked from its archive: a slice goes as its start and its length, a slice of rows
+//! The entry points of `crates/ciplink_c`, linked from its archive: a slice goes as its start and its length, a slice of rows
 //! as its start and the number of its rows.
 
 use ciplink_sim::rows::{Flags, Tables};

@@ -54,7 +54,7 @@ fn antt_crate(seed: u64, from: u64, to: u64, wanted: Wanted, dir: &Path, chunk: 
     for index in from..to {
         let sound = run(seed + index, wanted);
         let broken = run_broken(seed + index, &sound.set, false);
-        let runs = [(String::new(), sound), (String::from("-broken-"), broken)];
+        let runs = [(String::new(), sound), (String::from("_broken"), broken)];
         let module = format!("Set{}", seed + index);
         scratch::write(&proofs.join(format!("{module}.antt")), &scratch::module(&runs, chunk));
         lines += &scratch::lines(&format!("{krate}/{module}"), &runs, chunk);
@@ -63,7 +63,7 @@ fn antt_crate(seed: u64, from: u64, to: u64, wanted: Wanted, dir: &Path, chunk: 
     scratch::write(&proofs.join("Lib.antt"), &mods);
     scratch::write(
         &dir.join("crates").join(&krate).join("src/lib.rt"),
-        "// No code: cases, held to the definition.\n",
+        "// No code: cases, held to the definition.\n\n#![tactic(auto)]\n",
     );
     scratch::write(&dir.join(format!("{krate}.txt")), &lines);
     krate

@@ -26,12 +26,10 @@ pub fn hex(list: &[u8]) -> String {
     list.iter().map(|b| format!("{b:02X}")).collect()
 }
 
-const HEAD: &str = "use mathlib.Core.Path.{_≡_, refl}
-use mathlib.Core.Bool.{Bool, true, false}
-use mathlib.Core.List.{List, [], _∷_}
-use Prim.Native.Nat.{ℕ}
-use Rattle·definition.specs.Tables.{Tables, Flags}
-use Rattle·checker.specs.Check.{Case, refusal, answer, stored, failures}
+const HEAD: &str = "use mathlib.Core.Path.{◌≡◌, refl}
+use Rattle.std.specs.Prelude.{true, false, List, [], ◌∷◌, ℕ}
+use Rattle.definition.specs.Tables.{Tables, Flags}
+use Rattle.checker.specs.Check.{Case, refusal, answer, stored, failures}
 ";
 
 fn tables(run: &Run, name: &str) -> String {
@@ -46,11 +44,11 @@ tables{name} = record {{
   tags = {};
   others = {};
   names = {};
-  tagNames = {};
+  tag_names = {};
   templates = {} }}
 
 abbrev pub flags{name} : Flags
-flags{name} = record {{ multiService = {}; instanceIds = {}; aoiLocalsRefused = {}; micro800 = {} }}
+flags{name} = record {{ multi_service = {}; instance_ids = {}; aoi_locals_refused = {}; micro800 = {} }}
 ",
         rows(&t.structures),
         rows(&t.members),
