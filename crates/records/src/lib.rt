@@ -1,7 +1,6 @@
 // Tags as records with named fields: how a program keeps and lends them, beside the flat rows that the services take.
-// The borrow checker covers no function over a slice of structs, so those over `&[Tag]` and `&mut [Tag]` stay small and
-// are proved by a walk of their code, with a promise on the records and on the rows that they mean. A function that takes
-// a `Tag` by value is covered: so are the tests and the answers of the two lookups.
+// What takes `&[Tag]` or `&mut [Tag]` promises something of the records and of the rows that they mean; the tests and the answers
+// of the two lookups take a `Tag` by value.
 #![tactic(auto)]
 
 ghost use Rattle.std.specs.Prelude.{◌≡◌, [], ◌<◌, min, length, set};
@@ -33,7 +32,6 @@ pub struct Tag {
 }
 
 /// What a lookup found: the record's place among those lent, and the record; where there is none, a record of zeros.
-/// (An enum that holds the record would hold its array of lengths, which the borrow checker does not cover.)
 #[derive(Clone, Copy)]
 pub struct Lookup {
     pub at: Found,
