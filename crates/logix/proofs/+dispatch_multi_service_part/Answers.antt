@@ -107,7 +107,7 @@ part-dispatch-len-requires t c = (
 
 pub part-returns-then-budget-ge8 : goal.part-returns-then-budget-ge8
 part-returns-then-budget-ge8 t c =
-    part_in_place _ _ _ _ _ _ c.first_of.ensures c.if-first_of-eq-ENVELOPE.false _ _ _ _ _ _ c.if-budget-ge8.true c.requires.2
+    part_in_place _ _ _ _ _ _ c.first_of.ensures (search rules) _ _ _ _ _ _ c.if-budget-ge8.true c.requires.2
     c.requires.3 c.dispatch-len.ensures
 
 pub part-dispatch-n-requires : goal.part-dispatch-n-requires
@@ -115,14 +115,14 @@ part-dispatch-n-requires t c = (search rules, (c.requires.0, omega (arith, c.req
 
 pub part-place-requires : goal.part-place-requires
 part-place-requires t c = (
-  part_some _ _ _ _ _ _ c.first_of.ensures c.if-first_of-eq-ENVELOPE.false _ _ _ _ c.if-budget-ge8.false refl
+  part_some _ _ _ _ _ _ c.first_of.ensures (search rules) _ _ _ _ c.if-budget-ge8.false refl
       c.dispatch-n.ensures,
-  part_fits _ _ _ _ _ _ c.first_of.ensures c.if-first_of-eq-ENVELOPE.false _ _ _ _ c.if-budget-ge8.false refl
+  part_fits _ _ _ _ _ _ c.first_of.ensures (search rules) _ _ _ _ c.if-budget-ge8.false refl
       c.dispatch-n.ensures c.dispatch-n.auto.buf,
   c.requires.3,
 )
 
 pub part-returns : goal.part-returns
 part-returns t c =
-    part_by_scratch _ _ _ _ _ _ c.first_of.ensures c.if-first_of-eq-ENVELOPE.false _ _ _ _ c.if-budget-ge8.false refl
+    part_by_scratch _ _ _ _ _ _ c.first_of.ensures (search rules) _ _ _ _ c.if-budget-ge8.false refl
     c.dispatch-n.ensures _ _ _ _ _ c.requires.3 c.place.ensures

@@ -1,6 +1,7 @@
 -- The tests in the definition's order: a symbol page, a tag service on a tag path, else the refusal by the path's object.
 use Rattle.services.proofs.Choosing.{by_page, by_tag, by_other}
 use mathlib.Core.Path.{refl}
+use borrow.Author.Rules.{rules}
 use Rattle.model.proofs.Lent.{some-valid}
 use Rattle.services.proofs.by_service.Goals as goal
 
@@ -13,10 +14,10 @@ returns-then-service-eq-SYMBOL_PAGE c =
 
 pub returns-then-is_tag_request : goal.returns-then-is_tag_request
 returns-then-is_tag_request c =
-    by_tag _ _ _ _ _ _ _ _ _ _ c.if-service-eq-SYMBOL_PAGE.false _ c.is_tag_request.ensures c.if-is_tag_request.true _
+    by_tag _ _ _ _ _ _ _ _ _ _ (search rules) _ c.is_tag_request.ensures c.if-is_tag_request.true _
     c.tag_service.ensures
 
 pub returns : goal.returns
 returns c =
-    by_other _ _ _ _ _ _ _ _ _ _ c.if-service-eq-SYMBOL_PAGE.false _ c.is_tag_request.ensures c.if-is_tag_request.false c.args.o
+    by_other _ _ _ _ _ _ _ _ _ _ (search rules) _ c.is_tag_request.ensures c.if-is_tag_request.false c.args.o
     c.requires.1 c.refuse_other.ensures
