@@ -3,10 +3,16 @@ ghost use Rattle.definition.specs.Entry.{entry as entry_of};
 ghost use Rattle.definition.specs.Pallet.{pallet, pallet_flags};
 ghost use Rattle.bench.specs.Sent.{Sends};
 
+use crate::controller;
+use crate::controller::Tags;
 use crate::tally::Tally;
-use crate::{controller, tally};
 use pallet::MEMORY;
 use std::io;
+
+const TAGS: Tags<'static> = Tags {
+    rows: &pallet::TAGS,
+    names: &pallet::TAG_NAMES,
+};
 
 /// The bench's reply to a request: its length.
 pub fn send(memory: &mut [u8], request: &[u8], limit: usize, buf: &mut [u8]) -> usize
@@ -16,50 +22,32 @@ pub fn send(memory: &mut [u8], request: &[u8], limit: usize, buf: &mut [u8]) -> 
     controller::length_of(pallet::message(memory, request, limit, buf))
 }
 
-fn reply(
-    to: &impl Print,
-    t: Tally,
-    memory: &mut [u8],
-    name: &[u8],
-    request: &[u8],
-    limit: usize,
-    expected: &[u8],
-) -> io::Result<Tally> {
-    let tags = pallet::TAGS;
-    let tag_names = pallet::TAG_NAMES;
-    controller::compare(
-        to, t, &tags, &tag_names, memory, name, request, limit, expected,
-    )
-}
-
 /// A line of the bench that leaves tag memory as it was.
-pub fn line(
-    to: &impl Print,
-    t: Tally,
-    name: &[u8],
+pub fn line<P: Print>(
+    t: &mut Tally<P>,
+    name: &str,
     request: &[u8],
     limit: usize,
     expected: &[u8],
-) -> io::Result<Tally> {
+) -> io::Result<()> {
     let mut memory = MEMORY;
-    let t = reply(to, t, &mut memory, name, request, limit, expected)?;
-    if tally::same(&memory, &MEMORY) {
-        return Ok(t);
+    TAGS.compare(t, &mut memory, name, request, limit, expected)?;
+    if memory == MEMORY {
+        return Ok(());
     }
-    tally::bytes(to, t, b"  tag memory after it", &memory, &MEMORY)
+    t.bytes("  tag memory after it", &memory, &MEMORY)
 }
 
 /// A line of the bench that says what tag memory is after it.
-pub fn storing(
-    to: &impl Print,
-    t: Tally,
-    name: &[u8],
+pub fn storing<P: Print>(
+    t: &mut Tally<P>,
+    name: &str,
     request: &[u8],
     limit: usize,
     expected: &[u8],
     after: &[u8],
-) -> io::Result<Tally> {
+) -> io::Result<()> {
     let mut memory = MEMORY;
-    let t = reply(to, t, &mut memory, name, request, limit, expected)?;
-    tally::bytes(to, t, b"  tag memory after it", &memory, after)
+    TAGS.compare(t, &mut memory, name, request, limit, expected)?;
+    t.bytes("  tag memory after it", &memory, after)
 }

@@ -7,17 +7,14 @@ ghost use Rattle.bench.specs.Sent.{length_in, Sends};
 
 use crate::tally;
 use crate::tally::Tally;
-use logix::entry::Outcome;
+use logix::entry::Refusal;
 use std::io;
 
 /// A reply's length; a request that gets none has no bytes.
-pub fn length_of(o: Outcome) -> usize
-    ensures { result ≡ length_in o }
+pub fn length_of(reply: Result<usize, Refusal>) -> usize
+    ensures { result ≡ length_in reply }
 {
-    match o {
-        Outcome::Reply(n) => n,
-        Outcome::Refused(_) => 0,
-    }
+    reply.unwrap_or(0)
 }
 
 /// Answers a request: the reply's length.
@@ -35,19 +32,26 @@ pub fn send(
     length_of(pallet::with_tags(tags, tag_names, memory, request, limit, buf))
 }
 
-/// Sends a request and compares its reply.
-pub fn compare(
-    to: &impl Print,
-    t: Tally,
-    tags: &[[u32; 12]],
-    tag_names: &[u8],
-    memory: &mut [u8],
-    name: &[u8],
-    request: &[u8],
-    limit: usize,
-    expected: &[u8],
-) -> io::Result<Tally> {
-    let mut buf = [0xEEu8; 110];
-    let n = send(tags, tag_names, memory, request, limit, &mut buf);
-    tally::bytes(to, t, name, tally::first(&buf, n), expected)
+/// The tags of a bench, and their names.
+#[derive(Clone, Copy)]
+pub struct Tags<'a> {
+    pub rows: &'a [[u32; 12]],
+    pub names: &'a [u8],
+}
+
+impl<'a> Tags<'a> {
+    /// Sends a request and compares its reply.
+    pub fn compare<P: Print>(
+        self,
+        t: &mut Tally<P>,
+        memory: &mut [u8],
+        name: &str,
+        request: &[u8],
+        limit: usize,
+        expected: &[u8],
+    ) -> io::Result<()> {
+        let mut buf = [0xEE; 110];
+        let n = send(self.rows, self.names, memory, request, limit, &mut buf);
+        t.bytes(name, tally::first(&buf, n), expected)
+    }
 }

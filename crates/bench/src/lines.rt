@@ -3,113 +3,95 @@ use crate::ask::{line, storing};
 use crate::tally::Tally;
 use std::io;
 
-pub fn reads(to: &impl Print, t: Tally) -> io::Result<Tally> {
+pub fn reads<P: Print>(t: &mut Tally<P>) -> io::Result<()> {
     let count = b"\x4C\x04\x91\x05Count\x00\x01\x00";
-    let t = line(
-        to,
+    line(
         t,
-        b"Count",
+        "Count",
         count,
         100,
         b"\xCC\x00\x00\x00\xC4\x00\x2A\x00\x00\x00",
     )?;
-    let t = line(
-        to,
+    line(
         t,
-        b"Count, limit 9",
+        "Count, limit 9",
         count,
         9,
         b"\xCC\x00\x06\x00\xC4\x00\x2A\x00\x00",
     )?;
-    let t = line(
-        to,
+    line(t, "Count, limit 0", count, 0, b"\xCC\x00\x06\x00\xC4\x00")?;
+    line(
         t,
-        b"Count, limit 0",
-        count,
-        0,
-        b"\xCC\x00\x06\x00\xC4\x00",
-    )?;
-    let t = line(
-        to,
-        t,
-        b"Cell.Run",
+        "Cell.Run",
         b"\x4C\x06\x91\x04Cell\x91\x03Run\x00\x01\x00",
         100,
         b"\xCC\x00\x00\x00\xC1\x00\x01",
     )?;
     line(
-        to,
         t,
-        b"Cell.Run, 2 elements",
+        "Cell.Run, 2 elements",
         b"\x4C\x06\x91\x04Cell\x91\x03Run\x00\x02\x00",
         100,
         b"\xCC\x00\xFF\x01\x05\x21",
     )
 }
 
-pub fn fragments(to: &impl Print, t: Tally) -> io::Result<Tally> {
-    let t = line(
-        to,
+pub fn fragments<P: Print>(t: &mut Tally<P>) -> io::Result<()> {
+    line(
         t,
-        b"Rows from 0, limit 22",
+        "Rows from 0, limit 22",
         b"\x52\x03\x91\x04Rows\x0A\x00\x00\x00\x00\x00",
         22,
         b"\xD2\x00\x06\x00\xC4\x00\x01\x02\x03\x04\x05\x06\x07\x08\x09\x0A\x0B\x0C\x0D\x0E\x0F\x10",
     )?;
-    let t = line(
-        to,
+    line(
         t,
-        b"Rows from 16, limit 22",
+        "Rows from 16, limit 22",
         b"\x52\x03\x91\x04Rows\x0A\x00\x10\x00\x00\x00",
         22,
         b"\xD2\x00\x06\x00\xC4\x00\x11\x12\x13\x14\x15\x16\x17\x18\x19\x1A\x1B\x1C\x1D\x1E\x1F\x20",
     )?;
-    let t = line(
-        to,
+    line(
         t,
-        b"Rows from 32, limit 22",
+        "Rows from 32, limit 22",
         b"\x52\x03\x91\x04Rows\x0A\x00\x20\x00\x00\x00",
         22,
         b"\xD2\x00\x00\x00\xC4\x00\x21\x22\x23\x24\x25\x26\x27\x28",
     )?;
     line(
-        to,
         t,
-        b"Rows from 40",
+        "Rows from 40",
         b"\x52\x03\x91\x04Rows\x0A\x00\x28\x00\x00\x00",
         100,
         b"\xD2\x00\xFF\x01\x05\x21",
     )
 }
 
-pub fn refusals(to: &impl Print, t: Tally) -> io::Result<Tally> {
-    let t = line(
-        to,
+pub fn refusals<P: Print>(t: &mut Tally<P>) -> io::Result<()> {
+    line(
         t,
-        b"Rows[9], 2 elements",
+        "Rows[9], 2 elements",
         b"\x4C\x04\x91\x04Rows\x28\x09\x02\x00",
         100,
         b"\xCC\x00\xFF\x01\x05\x21",
     )?;
-    let t = line(
-        to,
+    line(
         t,
-        b"Rows[10]",
+        "Rows[10]",
         b"\x4C\x04\x91\x04Rows\x28\x0A\x01\x00",
         100,
         b"\xCC\x00\x05\x00",
     )?;
-    line(to, t, b"empty message", b"", 100, b"\x80\x00\x04\x00")
+    line(t, "empty message", b"", 100, b"\x80\x00\x04\x00")
 }
 
 /// OR 01 00 00 00, then AND 0F 00 00 00: `Count` is 0B 00 00 00, and no other byte changes.
-pub fn masked(to: &impl Print, t: Tally) -> io::Result<Tally> {
+pub fn masked<P: Print>(t: &mut Tally<P>) -> io::Result<()> {
     let mut after = pallet::MEMORY;
     after[0] = 0x0B;
     storing(
-        to,
         t,
-        b"Count, masked write",
+        "Count, masked write",
         b"\x4E\x04\x91\x05Count\x00\x04\x00\x01\x00\x00\x00\x0F\x00\x00\x00",
         100,
         b"\xCE\x00\x00\x00",
@@ -117,20 +99,18 @@ pub fn masked(to: &impl Print, t: Tally) -> io::Result<Tally> {
     )
 }
 
-pub fn envelopes(to: &impl Print, t: Tally) -> io::Result<Tally> {
+pub fn envelopes<P: Print>(t: &mut Tally<P>) -> io::Result<()> {
     let nested = b"\x0A\x02\x20\x02\x24\x01\x01\x00\x04\x00\x0A";
-    let t = line(
-        to,
+    line(
         t,
-        b"envelope in an envelope, limit 12",
+        "envelope in an envelope, limit 12",
         nested,
         12,
         b"\x8A\x00\x1E\x00\x01\x00\x04\x00\x8A\x00\x08\x00",
     )?;
     line(
-        to,
         t,
-        b"envelope in an envelope, limit 11",
+        "envelope in an envelope, limit 11",
         nested,
         11,
         b"\x8A\x00\x11\x00",
@@ -138,19 +118,17 @@ pub fn envelopes(to: &impl Print, t: Tally) -> io::Result<Tally> {
 }
 
 /// The second is not in document 01: it fixes the bytes of the page that the continued pages are compared with.
-pub fn symbols(to: &impl Print, t: Tally) -> io::Result<Tally> {
-    let t = line(
-        to,
+pub fn symbols<P: Print>(t: &mut Tally<P>) -> io::Result<()> {
+    line(
         t,
-        b"attributes 3 and 5 of ID 0xFFFFFFFF",
+        "attributes 3 and 5 of ID 0xFFFFFFFF",
         b"\x55\x04\x20\x6B\x26\x00\xFF\xFF\xFF\xFF\x02\x00\x03\x00\x05\x00",
         100,
         b"\xD5\x00\x00\x00\xFF\xFF\xFF\xFF\x00\xFF\x0F\x00\xC0\x1F\x00\x00",
     )?;
     line(
-        to,
         t,
-        b"names and types of all symbols",
+        "names and types of all symbols",
         b"\x55\x04\x20\x6B\x26\x00\x00\x00\x00\x00\x02\x00\x01\x00\x02\x00",
         100,
         b"\xD5\x00\x00\x00\x01\x00\x00\x00\x05\x00Count\xC4\x00\x02\x00\x00\x00\x04\x00Rows\xC4\x20\xFF\xFF\xFF\xFF\x04\x00Cell\x00\x81",

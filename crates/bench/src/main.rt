@@ -13,20 +13,22 @@ mod segments;
 mod sets;
 mod tally;
 
+use crate::tally::Tally;
 use std::io;
 
 fn main(rt: HostRuntime) -> io::Result<()> {
     let to = rt.stdout();
     segments::paths(&to)?;
     sets::judged(&to)?;
-    let t = lines::reads(&to, tally::none())?;
-    let t = lines::fragments(&to, t)?;
-    let t = lines::refusals(&to, t)?;
-    let t = lines::masked(&to, t)?;
-    let t = lines::envelopes(&to, t)?;
-    let t = lines::symbols(&to, t)?;
-    let t = examples::all(&to, t)?;
-    let t = joined::reads(&to, t)?;
-    let t = joined::pages(&to, t)?;
-    tally::close(&to, t)
+    let mut t = Tally::new(&to);
+    lines::reads(&mut t)?;
+    lines::fragments(&mut t)?;
+    lines::refusals(&mut t)?;
+    lines::masked(&mut t)?;
+    lines::envelopes(&mut t)?;
+    lines::symbols(&mut t)?;
+    examples::all(&mut t)?;
+    joined::reads(&mut t)?;
+    joined::pages(&mut t)?;
+    t.close()
 }

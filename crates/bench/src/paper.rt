@@ -1,5 +1,5 @@
 // The tags of 1756-PM020's examples. Their IDs, their order and the values before the writes are this project's choice.
-use crate::controller;
+use crate::controller::Tags;
 use crate::tally::Tally;
 use std::io;
 
@@ -17,17 +17,16 @@ const TAG_NAMES: [u8; 30] = *b"rateCartonSizeControlWordparts";
 pub const MEMORY: [u8; 16] = [0x16, 2, 0, 0, 0, 0, 0, 0, 0xF8, 1, 0, 0, 0x2A, 0, 0, 0];
 
 /// An example of the paper, over what the ones before it left in tag memory.
-pub fn example(
-    to: &impl Print,
-    t: Tally,
+pub fn example<P: Print>(
+    t: &mut Tally<P>,
     memory: &mut [u8],
-    name: &[u8],
+    name: &str,
     request: &[u8],
     expected: &[u8],
-) -> io::Result<Tally> {
-    let tags = TAGS;
-    let tag_names = TAG_NAMES;
-    controller::compare(
-        to, t, &tags, &tag_names, memory, name, request, 100, expected,
-    )
+) -> io::Result<()> {
+    let tags = Tags {
+        rows: &TAGS,
+        names: &TAG_NAMES,
+    };
+    tags.compare(t, memory, name, request, 100, expected)
 }

@@ -1,52 +1,34 @@
 // Segment vectors: paths as CIP Volume 1's appendix on segments encodes them, and what the decoder makes of each.
-use crate::tally::{hex, number, text};
-use cip::numbers;
+use crate::tally::Hex;
+use path::Segment;
 use std::io;
 
-fn print_segment(to: &impl Print, s: path::Segment) -> io::Result<()> {
-    match s {
-        path::Segment::Port(_) => text(to, b" port"),
-        path::Segment::Class(x, _) => {
-            text(to, b" class ")?;
-            number(to, numbers::long(x))
+/// A segment that starts at a position; a symbol by where its name stands.
+fn show(to: &impl Print, segment: Segment, at: usize) -> io::Result<()> {
+    match segment {
+        Segment::Port => print!(to; " port"),
+        Segment::Class(x) => print!(to; " class {x}"),
+        Segment::Instance(x) => print!(to; " instance {x}"),
+        Segment::Element(x) => print!(to; " element {x}"),
+        Segment::Attribute(x) => print!(to; " attribute {x}"),
+        Segment::Symbol(name) => {
+            print!(to; " symbol at {} of {}", at.saturating_add(2), name.len())
         }
-        path::Segment::Instance(x, _) => {
-            text(to, b" instance ")?;
-            number(to, numbers::long(x))
-        }
-        path::Segment::Element(x, _) => {
-            text(to, b" element ")?;
-            number(to, numbers::long(x))
-        }
-        path::Segment::Attribute(x, _) => {
-            text(to, b" attribute ")?;
-            number(to, numbers::long(x))
-        }
-        path::Segment::Symbol(start, n, _) => {
-            text(to, b" symbol at ")?;
-            number(to, numbers::long_size(start))?;
-            text(to, b" of ")?;
-            number(to, numbers::long_size(n))
-        }
-        path::Segment::Invalid => text(to, b" invalid"),
     }
 }
 
-fn segments(to: &impl Print, p: &[u8]) -> io::Result<()> {
-    text(to, b"path")?;
-    hex(to, p)?;
-    text(to, b":")?;
+#[tactic(auto, using(path::proofs::Forward::step_inside))]
+fn segments(to: &impl Print, path: &[u8]) -> io::Result<()> {
+    print!(to; "path{}:", Hex(path))?;
     let mut at = 0;
-    while at < p.len() {
-        let s = path::segment_at(p, at);
-        print_segment(to, s)?;
-        let next = path::next_of(s);
-        if next <= at {
-            return text(to, b"\n");
-        }
-        at = next;
+    while at < path.len() {
+        let Some(step) = path::segment_at(path, at) else {
+            return println!(to; " invalid");
+        };
+        show(to, step.segment, at)?;
+        at = step.next;
     }
-    text(to, b" end\n")
+    println!(to; " end")
 }
 
 /// Paths as the appendix encodes them, and ones that break it.

@@ -1,10 +1,10 @@
 // Validity vectors: table sets that break each of T1 to T6, or the encoding of a row, in one place.
-use crate::tally::text;
+use model::Tables;
 use model::columns::{
     MEMBER_ACCESS, MEMBER_BIT, MEMBER_HIDDEN, MEMBER_LENGTH, MEMBER_NAME_LENGTH, MEMBER_OFFSET,
     MEMBER_TYPE, OTHER_ID, OTHER_NAME_LENGTH, OTHER_TYPE, PROGRAM_NAME_LENGTH, STRUCTURE_MEMBERS,
     STRUCTURE_SIZE, STRUCTURE_TEMPLATE, TAG_ACCESS, TAG_ALIAS, TAG_ELEMENTS, TAG_ID, TAG_LENGTH_1,
-    TAG_LENGTH_2, TAG_LENGTH_3, TAG_OFFSET, TAG_SCOPE, TAG_TYPE, TEMPLATE_LENGTH,
+    TAG_LENGTH_3, TAG_OFFSET, TAG_SCOPE, TAG_TYPE, TEMPLATE_LENGTH,
 };
 use std::io;
 
@@ -34,8 +34,8 @@ const NAMES: [u8; 42] = *b"CellTypeRunOuterCellsLocalMainProgram:Main";
 
 const TAG_NAMES: [u8; 13] = *b"CountRowsCell";
 
-// One table set: two structures, three members, a program, four tags, another symbol; 64 bytes of tag memory.
-#[derive(Drop)]
+/// One table set: two structures, three members, a program, four tags, another symbol; 64 bytes of tag memory.
+#[derive(Clone, Copy)]
 struct Set {
     inner: [u32; 10],
     outer: [u32; 10],
@@ -47,223 +47,156 @@ struct Set {
     other: [u32; 5],
 }
 
-fn sound() -> Set {
-    Set {
-        inner: STRUCTURE,
-        outer: OUTER,
-        run: RUN,
-        cells: CELLS,
-        main: MAIN,
-        rows: ROWS,
-        bits: BITS,
-        other: PROGRAM,
-    }
-}
+const SOUND: Set = Set {
+    inner: STRUCTURE,
+    outer: OUTER,
+    run: RUN,
+    cells: CELLS,
+    main: MAIN,
+    rows: ROWS,
+    bits: BITS,
+    other: PROGRAM,
+};
 
-fn judge(to: &impl Print, label: &[u8], s: Set) -> io::Result<()> {
-    let memory = [0u8; 64];
-    let inner = s.inner;
-    let outer = s.outer;
-    let structures = [inner, outer];
-    let run = s.run;
-    let cells = s.cells;
-    let members = [run, cells, LOCAL];
-    let main = s.main;
-    let programs = [main];
-    let rows = s.rows;
-    let bits = s.bits;
-    let tags = [COUNT, rows, bits, CELL];
-    let other = s.other;
-    let others = [other];
-    let names = NAMES;
-    let tag_names = TAG_NAMES;
-    let templates = [0u8; 8];
-    text(to, label)?;
-    if tables::valid(
-        &structures,
-        &members,
-        &programs,
-        &tags,
-        &others,
-        &names,
-        &tag_names,
-        &templates,
-        &memory,
-    ) {
-        text(to, b": valid\n")
+/// Judges the sound set with an edit.
+fn judge<F: FnOnce(&mut Set)>(to: &impl Print, label: &str, edit: F) -> io::Result<()>
+    requires { F.IsAlwaysCallable edit }
+{
+    let mut set = SOUND;
+    edit(&mut set);
+    let Set {
+        inner,
+        outer,
+        run,
+        cells,
+        main,
+        rows,
+        bits,
+        other,
+    } = set;
+    let tables = Tables {
+        structures: &[inner, outer],
+        members: &[run, cells, LOCAL],
+        programs: &[main],
+        tags: &[COUNT, rows, bits, CELL],
+        others: &[other],
+        names: &NAMES,
+        tag_names: &TAG_NAMES,
+        templates: &[0; 8],
+    };
+    let said = if tables::valid(&tables, &[0; 64]) {
+        "valid"
     } else {
-        text(to, b": number 4\n")
-    }
+        "number 4"
+    };
+    println!(to; "{label}: {said}")
 }
 
-// The sound set with one word of a row changed.
-fn inner_word(word: usize, value: u32) -> Set {
-    let mut s = sound();
-    if word < 10 {
-        s.inner[word] = value;
-    }
-    s
-}
-
-fn outer_word(word: usize, value: u32) -> Set {
-    let mut s = sound();
-    if word < 10 {
-        s.outer[word] = value;
-    }
-    s
-}
-
-fn run_word(word: usize, value: u32) -> Set {
-    let mut s = sound();
-    if word < 9 {
-        s.run[word] = value;
-    }
-    s
-}
-
-fn cells_word(word: usize, value: u32) -> Set {
-    let mut s = sound();
-    if word < 9 {
-        s.cells[word] = value;
-    }
-    s
-}
-
-fn main_word(word: usize, value: u32) -> Set {
-    let mut s = sound();
-    if word < 2 {
-        s.main[word] = value;
-    }
-    s
-}
-
-fn rows_word(word: usize, value: u32) -> Set {
-    let mut s = sound();
-    if word < 12 {
-        s.rows[word] = value;
-    }
-    s
-}
-
-fn bits_word(word: usize, value: u32) -> Set {
-    let mut s = sound();
-    if word < 12 {
-        s.bits[word] = value;
-    }
-    s
-}
-
-fn other_word(word: usize, value: u32) -> Set {
-    let mut s = sound();
-    if word < 5 {
-        s.other[word] = value;
-    }
-    s
-}
-
-// The sound set with three lengths of `Rows`.
-fn lengths(a: u32, b: u32, c: u32) -> Set {
-    let mut s = sound();
-    s.rows[TAG_LENGTH_1] = a;
-    s.rows[TAG_LENGTH_2] = b;
-    s.rows[TAG_LENGTH_3] = c;
-    s
+/// `Rows` with three lengths.
+fn lengths(to: &impl Print, label: &str, lengths: [u32; 3]) -> io::Result<()> {
+    judge(to, label, |s| {
+        s.rows[TAG_LENGTH_1..=TAG_LENGTH_3].copy_from_slice(&lengths)
+    })
 }
 
 fn names_and_ids(to: &impl Print) -> io::Result<()> {
-    judge(to, b"sound", sound())?;
-    judge(to, b"T1 access 4", rows_word(TAG_ACCESS, 4))?;
-    judge(to, b"T1 member access 4", cells_word(MEMBER_ACCESS, 4))?;
-    judge(to, b"T2 a name of 0 bytes", run_word(MEMBER_NAME_LENGTH, 0))?;
+    judge(to, "sound", |_| {})?;
+    judge(to, "T1 access 4", |s| s.rows[TAG_ACCESS] = 4)?;
+    judge(to, "T1 member access 4", |s| s.cells[MEMBER_ACCESS] = 4)?;
     judge(
         to,
-        b"T2 a name past its store",
-        other_word(OTHER_NAME_LENGTH, 13),
+        "T2 a name of 0 bytes",
+        |s| s.run[MEMBER_NAME_LENGTH] = 0,
     )?;
-    judge(to, b"T2 two tags of one name", bits_word(TAG_SCOPE, 0))?;
     judge(
         to,
-        b"T2 a program with no name",
-        main_word(PROGRAM_NAME_LENGTH, 0),
+        "T2 a name past its store",
+        |s| s.other[OTHER_NAME_LENGTH] = 13,
     )?;
-    judge(to, b"T3 ID 0", rows_word(TAG_ID, 0))?;
-    judge(to, b"T3 two tags of one ID", rows_word(TAG_ID, 1))?;
+    judge(to, "T2 two tags of one name", |s| s.bits[TAG_SCOPE] = 0)?;
     judge(
         to,
-        b"T3 a tag's ID in another symbol",
-        other_word(OTHER_ID, 1),
+        "T2 a program with no name",
+        |s| s.main[PROGRAM_NAME_LENGTH] = 0,
+    )?;
+    judge(to, "T3 ID 0", |s| s.rows[TAG_ID] = 0)?;
+    judge(to, "T3 two tags of one ID", |s| s.rows[TAG_ID] = 1)?;
+    judge(
+        to,
+        "T3 a tag's ID in another symbol",
+        |s| s.other[OTHER_ID] = 1,
     )
 }
 
 fn structures(to: &impl Print) -> io::Result<()> {
     judge(
         to,
-        b"T4 a member past its structure",
-        run_word(MEMBER_OFFSET, 4),
+        "T4 a member past its structure",
+        |s| s.run[MEMBER_OFFSET] = 4,
     )?;
     judge(
         to,
-        b"T4 an array past its structure",
-        cells_word(MEMBER_LENGTH, 4),
+        "T4 an array past its structure",
+        |s| s.cells[MEMBER_LENGTH] = 4,
     )?;
     judge(
         to,
-        b"T4 a member of its own structure",
-        cells_word(MEMBER_TYPE, 0x101),
+        "T4 a member of its own structure",
+        |s| s.cells[MEMBER_TYPE] = 0x101,
     )?;
-    judge(to, b"T4 bit 9", run_word(MEMBER_BIT, 9))?;
+    judge(to, "T4 bit 9", |s| s.run[MEMBER_BIT] = 9)?;
     judge(
         to,
-        b"T4 a structure of 0 bytes",
-        inner_word(STRUCTURE_SIZE, 0),
+        "T4 a structure of 0 bytes",
+        |s| s.inner[STRUCTURE_SIZE] = 0,
     )?;
     judge(
         to,
-        b"T4 a template past its store",
-        outer_word(TEMPLATE_LENGTH, 9),
+        "T4 a template past its store",
+        |s| s.outer[TEMPLATE_LENGTH] = 9,
     )
 }
 
 fn elements(to: &impl Print) -> io::Result<()> {
-    judge(to, b"T5 no type", rows_word(TAG_TYPE, 0xCC))?;
+    judge(to, "T5 no type", |s| s.rows[TAG_TYPE] = 0xCC)?;
     judge(
         to,
-        b"T5 a structure that is not there",
-        rows_word(TAG_TYPE, 0x102),
+        "T5 a structure that is not there",
+        |s| s.rows[TAG_TYPE] = 0x102,
     )?;
-    judge(to, b"T5 nine elements of ten", rows_word(TAG_ELEMENTS, 9))?;
-    judge(to, b"T5 2 by 5", lengths(2, 5, 0))?;
-    judge(to, b"T5 a zero length first", lengths(0, 10, 0))?;
-    judge(
+    judge(to, "T5 nine elements of ten", |s| s.rows[TAG_ELEMENTS] = 9)?;
+    lengths(to, "T5 2 by 5", [2, 5, 0])?;
+    lengths(to, "T5 a zero length first", [0, 10, 0])?;
+    lengths(
         to,
-        b"T5 a product past 64 bits",
-        lengths(0xFFFF_FFFF, 0xFFFF_FFFF, 0xFFFF_FFFF),
+        "T5 a product past 64 bits",
+        [0xFFFF_FFFF, 0xFFFF_FFFF, 0xFFFF_FFFF],
     )?;
-    judge(to, b"T5 a 32nd of 65", bits_word(TAG_LENGTH_1, 65))?;
-    judge(to, b"T5 one word for 64 bits", bits_word(TAG_ELEMENTS, 1))
+    judge(to, "T5 a 32nd of 65", |s| s.bits[TAG_LENGTH_1] = 65)?;
+    judge(to, "T5 one word for 64 bits", |s| s.bits[TAG_ELEMENTS] = 1)
 }
 
 fn bytes_and_rows(to: &impl Print) -> io::Result<()> {
-    judge(to, b"T6 past tag memory", bits_word(TAG_OFFSET, 61))?;
-    judge(to, b"T6 one byte shared", rows_word(TAG_OFFSET, 3))?;
-    judge(to, b"T6 one inside another", bits_word(TAG_OFFSET, 8))?;
-    judge(to, b"scope that is no program", rows_word(TAG_SCOPE, 2))?;
-    judge(to, b"mark 2", rows_word(TAG_ALIAS, 2))?;
-    judge(to, b"hidden mark 2", run_word(MEMBER_HIDDEN, 2))?;
+    judge(to, "T6 past tag memory", |s| s.bits[TAG_OFFSET] = 61)?;
+    judge(to, "T6 one byte shared", |s| s.rows[TAG_OFFSET] = 3)?;
+    judge(to, "T6 one inside another", |s| s.bits[TAG_OFFSET] = 8)?;
+    judge(to, "scope that is no program", |s| s.rows[TAG_SCOPE] = 2)?;
+    judge(to, "mark 2", |s| s.rows[TAG_ALIAS] = 2)?;
+    judge(to, "hidden mark 2", |s| s.run[MEMBER_HIDDEN] = 2)?;
     judge(
         to,
-        b"a template ID of 17 bits",
-        inner_word(STRUCTURE_TEMPLATE, 0x10000),
+        "a template ID of 17 bits",
+        |s| s.inner[STRUCTURE_TEMPLATE] = 0x10000,
     )?;
     judge(
         to,
-        b"a symbol type of 17 bits",
-        other_word(OTHER_TYPE, 0x10000),
+        "a symbol type of 17 bits",
+        |s| s.other[OTHER_TYPE] = 0x10000,
     )?;
     judge(
         to,
-        b"members past their table",
-        outer_word(STRUCTURE_MEMBERS, 3),
+        "members past their table",
+        |s| s.outer[STRUCTURE_MEMBERS] = 3,
     )
 }
 

@@ -1,9 +1,9 @@
 // A table set that breaks no rule, and what an edit makes of it. An array has one row more than T1 allows, for the sets
 // that have too many; behind the base's rows its first row is repeated.
-ghost use Rattle.std.specs.Prelude.{◌≡◌, length};
+ghost use Rattle.std.specs.Prelude.{◌<◌, ◌≤◌};
 
-use crate::edits::{Edit, NAMES, TAG_NAMES};
-use wording::{MEMBERS, OTHERS, PROGRAMS, STRUCTURES, TAGS};
+use crate::edits::{Edit, Names};
+use tables::rules::Table;
 
 /// Names of rows; behind them `MAIN` and `COUNT`, which no row of the base has.
 const STORE: [u8; 98] =
@@ -52,174 +52,59 @@ const THREE_OTHERS: [[u32; 5]; 3] = [
     [0, 84, 5, 12, 0x1070],
 ];
 
-pub fn structures(e: Edit) -> [[u32; 10]; 65]
-    ensures { 65 ≡ length result }
+/// The rows of a table: its base, with the edit's word if that is of this table.
+fn edited<const N: usize, const BASE: usize, const ROWS: usize>(
+    base: &[[u32; N]; BASE],
+    table: Table,
+    e: Edit,
+) -> [[u32; N]; ROWS]
+    requires { (0 < BASE) × (BASE ≤ ROWS) }
 {
-    let base = THREE_STRUCTURES;
-    let first = base[0];
-    let mut rows = [first; 65];
-    rows[1] = base[1];
-    rows[2] = base[2];
-    let at = e.row;
-    let word = e.word;
-    if e.table != STRUCTURES {
-        return rows;
+    let mut rows = [base[0]; ROWS];
+    rows[..BASE].copy_from_slice(base);
+    match e {
+        Edit::Word(of, row, column, value) if of == table && row < ROWS && column < N => {
+            rows[row][column] = value;
+        }
+        _ => {}
     }
-    if at >= 65 {
-        return rows;
-    }
-    if word >= 10 {
-        return rows;
-    }
-    let mut row = rows[at];
-    row[word] = e.value;
-    rows[at] = row;
     rows
 }
 
-pub fn members(e: Edit) -> [[u32; 9]; 513]
-    ensures { 513 ≡ length result }
-{
-    let base = EIGHT_MEMBERS;
-    let first = base[0];
-    let mut rows = [first; 513];
-    rows[1] = base[1];
-    rows[2] = base[2];
-    rows[3] = base[3];
-    rows[4] = base[4];
-    rows[5] = base[5];
-    rows[6] = base[6];
-    rows[7] = base[7];
-    let at = e.row;
-    let word = e.word;
-    if e.table != MEMBERS {
-        return rows;
-    }
-    if at >= 513 {
-        return rows;
-    }
-    if word >= 9 {
-        return rows;
-    }
-    let mut row = rows[at];
-    row[word] = e.value;
-    rows[at] = row;
-    rows
+pub fn structures(e: Edit) -> [[u32; 10]; 65] {
+    edited(&THREE_STRUCTURES, Table::Structures, e)
 }
 
-pub fn programs(e: Edit) -> [[u32; 2]; 17]
-    ensures { 17 ≡ length result }
-{
-    let base = TWO_PROGRAMS;
-    let first = base[0];
-    let mut rows = [first; 17];
-    rows[1] = base[1];
-    let at = e.row;
-    let word = e.word;
-    if e.table != PROGRAMS {
-        return rows;
-    }
-    if at >= 17 {
-        return rows;
-    }
-    if word >= 2 {
-        return rows;
-    }
-    let mut row = rows[at];
-    row[word] = e.value;
-    rows[at] = row;
-    rows
+pub fn members(e: Edit) -> [[u32; 9]; 513] {
+    edited(&EIGHT_MEMBERS, Table::Members, e)
 }
 
-pub fn tags(e: Edit) -> [[u32; 12]; 1025]
-    ensures { 1025 ≡ length result }
-{
-    let base = FIVE_TAGS;
-    let first = base[0];
-    let mut rows = [first; 1025];
-    rows[1] = base[1];
-    rows[2] = base[2];
-    rows[3] = base[3];
-    rows[4] = base[4];
-    let at = e.row;
-    let word = e.word;
-    if e.table != TAGS {
-        return rows;
-    }
-    if at >= 1025 {
-        return rows;
-    }
-    if word >= 12 {
-        return rows;
-    }
-    let mut row = rows[at];
-    row[word] = e.value;
-    rows[at] = row;
-    rows
+pub fn programs(e: Edit) -> [[u32; 2]; 17] {
+    edited(&TWO_PROGRAMS, Table::Programs, e)
 }
 
-pub fn others(e: Edit) -> [[u32; 5]; 65]
-    ensures { 65 ≡ length result }
-{
-    let base = THREE_OTHERS;
-    let first = base[0];
-    let mut rows = [first; 65];
-    rows[1] = base[1];
-    rows[2] = base[2];
-    let at = e.row;
-    let word = e.word;
-    if e.table != OTHERS {
-        return rows;
-    }
-    if at >= 65 {
-        return rows;
-    }
-    if word >= 5 {
-        return rows;
-    }
-    let mut row = rows[at];
-    row[word] = e.value;
-    rows[at] = row;
-    rows
+pub fn tags(e: Edit) -> [[u32; 12]; 1025] {
+    edited(&FIVE_TAGS, Table::Tags, e)
 }
 
-fn low_byte(x: u32) -> u8 {
-    (x % 256) as u8
+pub fn others(e: Edit) -> [[u32; 5]; 65] {
+    edited(&THREE_OTHERS, Table::Others, e)
 }
 
-pub fn names(e: Edit) -> [u8; 98]
-    ensures { 98 ≡ length result }
-{
-    let mut store = STORE;
-    let at = e.row;
-    if e.table != NAMES {
-        return store;
+/// A store of names, with the edit's byte if that is of this store.
+fn respelled<const N: usize>(base: [u8; N], names: Names, e: Edit) -> [u8; N] {
+    let mut store = base;
+    match e {
+        Edit::Byte(of, at, byte) if of == names && at < N => store[at] = byte,
+        _ => {}
     }
-    if at >= 98 {
-        return store;
-    }
-    store[at] = low_byte(e.value);
     store
 }
 
-pub fn tag_names(e: Edit) -> [u8; 42]
-    ensures { 42 ≡ length result }
-{
-    let mut store = TAG_STORE;
-    let at = e.row;
-    if e.table != TAG_NAMES {
-        return store;
-    }
-    if at >= 42 {
-        return store;
-    }
-    store[at] = low_byte(e.value);
-    store
+pub fn names(e: Edit) -> [u8; 98] {
+    respelled(STORE, Names::OfRows, e)
 }
 
-/// Tag memory or the template store, of which no rule looks at a byte.
-pub fn zeros() -> [u8; 65537]
-    ensures { 65537 ≡ length result }
-{
-    [0; 65537]
+pub fn tag_names(e: Edit) -> [u8; 42] {
+    respelled(TAG_STORE, Names::OfTags, e)
 }

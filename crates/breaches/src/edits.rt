@@ -1,159 +1,85 @@
 // What breaks the base tables: each edit changes one word or byte, or how many rows or bytes there are.
-use cip::numbers::wide;
-use wording::{MEMBERS, NO_TABLE, OTHERS, PROGRAMS, STRUCTURES, TAG_MEMORY, TAGS, TEMPLATE_STORE};
+use model::columns::{
+    MEMBER_ACCESS, MEMBER_BIT, MEMBER_HIDDEN, MEMBER_LOCAL, MEMBER_NAME_LENGTH, MEMBER_NAME_START,
+    MEMBER_OFFSET, MEMBER_TYPE, OTHER_ID, OTHER_NAME_LENGTH, OTHER_NAME_START, OTHER_SCOPE,
+    OTHER_TYPE, PROGRAM_NAME_LENGTH, PROGRAM_NAME_START, STRUCTURE_AOI, STRUCTURE_HANDLE,
+    STRUCTURE_MEMBERS, STRUCTURE_NAME_LENGTH, STRUCTURE_NAME_START, STRUCTURE_SIZE,
+    STRUCTURE_TEMPLATE, TAG_ACCESS, TAG_ALIAS, TAG_ELEMENTS, TAG_ID, TAG_LENGTH_3, TAG_NAME_LENGTH,
+    TAG_NAME_START, TAG_OFFSET, TAG_SCOPE, TAG_TYPE, TEMPLATE_LENGTH,
+};
+use tables::rules::Table;
 
-// The two stores of names, numbered behind the tables. An edit of a byte has the byte's index in the place of the row.
-pub const NAMES: u32 = 8;
-
-pub const TAG_NAMES: u32 = 9;
-
-const BYTE: u32 = 0;
-
-/// In the place of the word: there is one row or byte more than T1 allows.
-pub const TOO_MANY: u32 = 99;
-
-// The words of structures, members and programs.
-const NAME: u32 = 0;
-
-const NAME_LENGTH: u32 = 1;
-
-// Of structures.
-const TEMPLATE_ID: u32 = 2;
-
-const HANDLE: u32 = 3;
-
-const SIZE: u32 = 4;
-
-const MEMBER_COUNT: u32 = 6;
-
-const AOI: u32 = 7;
-
-const TEMPLATE_LENGTH: u32 = 9;
-
-// Of members.
-const TYPE: u32 = 2;
-
-const OFFSET: u32 = 4;
-
-const BIT: u32 = 5;
-
-const HIDDEN: u32 = 6;
-
-const LOCAL: u32 = 7;
-
-const MEMBER_ACCESS: u32 = 8;
-
-// Of tags and other symbols.
-const SCOPE: u32 = 0;
-
-pub const SYMBOL_NAME: u32 = 1;
-
-pub const SYMBOL_NAME_LENGTH: u32 = 2;
-
-pub const ID: u32 = 3;
-
-// Of tags.
-const TAG_TYPE: u32 = 4;
-
-const LAST_LENGTH: u32 = 7;
-
-const ELEMENTS: u32 = 8;
-
-const ACCESS: u32 = 9;
-
-const ALIAS: u32 = 10;
-
-pub const PLACE: u32 = 11;
-
-// Of other symbols.
-const SYMBOL_TYPE: u32 = 4;
-
-/// How many tests there are.
-pub const TESTS: usize = 53;
-
-/// For each test, in the definition's order, an edit by which it is the first that is broken: table, row, word, value.
-const EDITS: [[u32; 4]; 53] = [
-    [STRUCTURES, 0, TOO_MANY, 0],
-    [MEMBERS, 0, TOO_MANY, 0],
-    [PROGRAMS, 0, TOO_MANY, 0],
-    [TAGS, 0, TOO_MANY, 0],
-    [OTHERS, 0, TOO_MANY, 0],
-    [TAG_MEMORY, 0, TOO_MANY, 0],
-    [TEMPLATE_STORE, 0, TOO_MANY, 0],
-    [STRUCTURES, 2, NAME, 95],
-    [STRUCTURES, 0, NAME_LENGTH, 0],
-    [NAMES, 7, BYTE, 0x80],
-    [STRUCTURES, 1, TEMPLATE_ID, 65536],
-    [STRUCTURES, 2, HANDLE, 65536],
-    [STRUCTURES, 2, MEMBER_COUNT, 3],
-    [STRUCTURES, 0, AOI, 2],
-    [STRUCTURES, 1, SIZE, 65536],
-    [STRUCTURES, 2, TEMPLATE_LENGTH, 9],
-    [MEMBERS, 7, NAME, 94],
-    [MEMBERS, 3, NAME_LENGTH, 41],
-    [NAMES, 41, BYTE, 0x7F],
-    [MEMBERS, 4, TYPE, 0xCC],
-    [MEMBERS, 0, HIDDEN, 2],
-    [MEMBERS, 7, LOCAL, 2],
-    [MEMBERS, 6, MEMBER_ACCESS, 4],
-    [MEMBERS, 1, BIT, 9],
-    [PROGRAMS, 1, NAME, 95],
-    [PROGRAMS, 0, NAME_LENGTH, 0],
-    [NAMES, 56, BYTE, 0x0A],
-    [TAGS, 3, SYMBOL_NAME_LENGTH, 0xFFFF_FFFF],
-    [TAGS, 0, SYMBOL_NAME_LENGTH, 41],
-    [TAG_NAMES, 6, BYTE, 0x1F],
-    [TAGS, 3, SCOPE, 3],
-    [TAGS, 4, ALIAS, 2],
-    [TAGS, 1, ACCESS, 4],
-    [TAGS, 0, ID, 0],
-    [TAGS, 2, TAG_TYPE, 0x103],
-    [TAGS, 1, LAST_LENGTH, 1],
-    [TAGS, 3, ELEMENTS, 3],
-    [TAGS, 4, PLACE, 85],
-    [OTHERS, 2, SYMBOL_NAME, 98],
-    [OTHERS, 0, SYMBOL_NAME_LENGTH, 0],
-    [NAMES, 79, BYTE, 0xFF],
-    [OTHERS, 1, SCOPE, 3],
-    [OTHERS, 2, SYMBOL_TYPE, 65536],
-    [OTHERS, 1, ID, 0],
-    [MEMBERS, 3, TYPE, 0x101],
-    [MEMBERS, 4, OFFSET, 9],
-    [PROGRAMS, 1, NAME, 89],
-    [TAGS, 2, SYMBOL_NAME, 23],
-    [OTHERS, 2, SYMBOL_NAME, 93],
-    [TAGS, 4, ID, 4],
-    [OTHERS, 2, ID, 2],
-    [OTHERS, 1, ID, 10],
-    [TAGS, 4, PLACE, 75],
-];
+/// The two stores of names.
+#[derive(Clone, Copy, PartialEq, Eq)]
+pub enum Names {
+    OfRows,
+    OfTags,
+}
 
 #[derive(Clone, Copy)]
-pub struct Edit {
-    pub table: u32,
-    pub row: usize,
-    pub word: usize,
-    pub value: u32,
+pub enum Edit {
+    Nothing,
+    /// There is one row or byte more than T1 allows.
+    TooMany(Table),
+    /// A word of a row, by table, row and column, has a value.
+    Word(Table, usize, usize, u32),
+    /// A byte of names, by store and index, has a value.
+    Byte(Names, usize, u8),
 }
 
-pub fn set(table: u32, row: u32, word: u32, value: u32) -> Edit {
-    Edit {
-        table: table,
-        row: wide(row),
-        word: wide(word),
-        value: value,
-    }
-}
-
-pub fn nothing() -> Edit {
-    set(NO_TABLE, 0, 0, 0)
-}
-
-/// The edit for test n, counted from 0.
-pub fn of_test(n: usize) -> Edit {
-    if n >= TESTS {
-        return nothing();
-    }
-    let edits = EDITS;
-    set(edits[n][0], edits[n][1], edits[n][2], edits[n][3])
-}
+/// For each test, in the definition's order, an edit by which it is the first that is broken.
+pub const EDITS: [Edit; 53] = [
+    Edit::TooMany(Table::Structures),
+    Edit::TooMany(Table::Members),
+    Edit::TooMany(Table::Programs),
+    Edit::TooMany(Table::Tags),
+    Edit::TooMany(Table::Others),
+    Edit::TooMany(Table::Memory),
+    Edit::TooMany(Table::Templates),
+    Edit::Word(Table::Structures, 2, STRUCTURE_NAME_START, 95),
+    Edit::Word(Table::Structures, 0, STRUCTURE_NAME_LENGTH, 0),
+    Edit::Byte(Names::OfRows, 7, 0x80),
+    Edit::Word(Table::Structures, 1, STRUCTURE_TEMPLATE, 65536),
+    Edit::Word(Table::Structures, 2, STRUCTURE_HANDLE, 65536),
+    Edit::Word(Table::Structures, 2, STRUCTURE_MEMBERS, 3),
+    Edit::Word(Table::Structures, 0, STRUCTURE_AOI, 2),
+    Edit::Word(Table::Structures, 1, STRUCTURE_SIZE, 65536),
+    Edit::Word(Table::Structures, 2, TEMPLATE_LENGTH, 9),
+    Edit::Word(Table::Members, 7, MEMBER_NAME_START, 94),
+    Edit::Word(Table::Members, 3, MEMBER_NAME_LENGTH, 41),
+    Edit::Byte(Names::OfRows, 41, 0x7F),
+    Edit::Word(Table::Members, 4, MEMBER_TYPE, 0xCC),
+    Edit::Word(Table::Members, 0, MEMBER_HIDDEN, 2),
+    Edit::Word(Table::Members, 7, MEMBER_LOCAL, 2),
+    Edit::Word(Table::Members, 6, MEMBER_ACCESS, 4),
+    Edit::Word(Table::Members, 1, MEMBER_BIT, 9),
+    Edit::Word(Table::Programs, 1, PROGRAM_NAME_START, 95),
+    Edit::Word(Table::Programs, 0, PROGRAM_NAME_LENGTH, 0),
+    Edit::Byte(Names::OfRows, 56, 0x0A),
+    Edit::Word(Table::Tags, 3, TAG_NAME_LENGTH, 0xFFFF_FFFF),
+    Edit::Word(Table::Tags, 0, TAG_NAME_LENGTH, 41),
+    Edit::Byte(Names::OfTags, 6, 0x1F),
+    Edit::Word(Table::Tags, 3, TAG_SCOPE, 3),
+    Edit::Word(Table::Tags, 4, TAG_ALIAS, 2),
+    Edit::Word(Table::Tags, 1, TAG_ACCESS, 4),
+    Edit::Word(Table::Tags, 0, TAG_ID, 0),
+    Edit::Word(Table::Tags, 2, TAG_TYPE, 0x103),
+    Edit::Word(Table::Tags, 1, TAG_LENGTH_3, 1),
+    Edit::Word(Table::Tags, 3, TAG_ELEMENTS, 3),
+    Edit::Word(Table::Tags, 4, TAG_OFFSET, 85),
+    Edit::Word(Table::Others, 2, OTHER_NAME_START, 98),
+    Edit::Word(Table::Others, 0, OTHER_NAME_LENGTH, 0),
+    Edit::Byte(Names::OfRows, 79, 0xFF),
+    Edit::Word(Table::Others, 1, OTHER_SCOPE, 3),
+    Edit::Word(Table::Others, 2, OTHER_TYPE, 65536),
+    Edit::Word(Table::Others, 1, OTHER_ID, 0),
+    Edit::Word(Table::Members, 3, MEMBER_TYPE, 0x101),
+    Edit::Word(Table::Members, 4, MEMBER_OFFSET, 9),
+    Edit::Word(Table::Programs, 1, PROGRAM_NAME_START, 89),
+    Edit::Word(Table::Tags, 2, TAG_NAME_START, 23),
+    Edit::Word(Table::Others, 2, OTHER_NAME_START, 93),
+    Edit::Word(Table::Tags, 4, TAG_ID, 4),
+    Edit::Word(Table::Others, 2, OTHER_ID, 2),
+    Edit::Word(Table::Others, 1, OTHER_ID, 10),
+    Edit::Word(Table::Tags, 4, TAG_OFFSET, 75),
+];

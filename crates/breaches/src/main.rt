@@ -1,99 +1,70 @@
 // Breaks a table set in each test of the definition in turn and writes what is said of it; then sets that break none.
 #![tactic(auto)]
 
-ghost use Rattle.std.specs.Prelude.{◌≤◌};
-
 mod base;
 mod edits;
 
-use crate::edits::Edit;
-use cip::numbers::wide;
+use crate::edits::{EDITS, Edit};
+use model::Tables;
+use model::columns::{OTHER_NAME_START, TAG_ID, TAG_NAME_LENGTH, TAG_NAME_START, TAG_OFFSET};
 use std::io;
-use wording::{MEMBERS, OTHERS, PROGRAMS, STRUCTURES, TAG_MEMORY, TAGS, TEMPLATE_STORE};
+use tables::rules::Table;
 
-fn text(to: &impl Print, s: &[u8]) -> io::Result<()> {
-    to.write_all(s)
-}
-
-fn number(to: &impl Print, n: usize) -> io::Result<()> {
-    to.print(n)
-}
-
-/// How many rows or bytes of a table are there: those of the base, or one more than T1 allows.
-fn count(e: Edit, table: u32, usual: usize, too_many: usize) -> usize
-    requires { usual ≤ too_many }
-    ensures { result ≤ too_many }
-{
-    if e.table != table {
-        return usual;
+/// The rows or bytes of a table that are there: so many, or all where the edit wants too many.
+fn there<T>(rows: &[T], table: Table, usual: usize, e: Edit) -> &[T] {
+    match e {
+        Edit::TooMany(of) if of == table => rows,
+        _ => rows.get(..usual).unwrap_or(rows),
     }
-    if e.word != wide(edits::TOO_MANY) {
-        return usual;
-    }
-    too_many
 }
 
-/// Judges the base with an edit.
+/// Judges the base with an edit. No rule looks at a byte of tag memory or of the template store.
 fn judge(to: &impl Print, e: Edit) -> io::Result<()> {
     let structures = base::structures(e);
     let members = base::members(e);
     let programs = base::programs(e);
     let tags = base::tags(e);
     let others = base::others(e);
-    let names = base::names(e);
-    let tag_names = base::tag_names(e);
-    let templates = base::zeros();
-    let memory = base::zeros();
-    let s = count(e, STRUCTURES, 3, 65);
-    let m = count(e, MEMBERS, 8, 513);
-    let p = count(e, PROGRAMS, 2, 17);
-    let t = count(e, TAGS, 5, 1025);
-    let o = count(e, OTHERS, 3, 65);
-    let k = count(e, TEMPLATE_STORE, 24, 65537);
-    let b = count(e, TAG_MEMORY, 88, 65537);
-    wording::tell(
-        to,
-        &structures[..s],
-        &members[..m],
-        &programs[..p],
-        &tags[..t],
-        &others[..o],
-        &names,
-        &tag_names,
-        &templates[..k],
-        &memory[..b],
-    )
+    let zeros = [0; 65537];
+    let tables = Tables {
+        structures: there(&structures, Table::Structures, 3, e),
+        members: there(&members, Table::Members, 8, e),
+        programs: there(&programs, Table::Programs, 2, e),
+        tags: there(&tags, Table::Tags, 5, e),
+        others: there(&others, Table::Others, 3, e),
+        names: &base::names(e),
+        tag_names: &base::tag_names(e),
+        templates: there(&zeros, Table::Templates, 24, e),
+    };
+    wording::tell(to, &tables, there(&zeros, Table::Memory, 88, e))
 }
 
 /// Each test as the first that is broken, by its number from 1 on.
 fn broken(to: &impl Print) -> io::Result<()> {
-    let mut n = 0;
-    while n < edits::TESTS {
-        number(to, n + 1)?;
-        text(to, b" ")?;
-        judge(to, edits::of_test(n))?;
-        n += 1;
+    for (i, e) in EDITS.iter().enumerate() {
+        print!(to; "{} ", i + 1)?;
+        judge(to, *e)?;
     }
     Ok(())
 }
 
 /// Sets that come close to a breach and have none.
 fn near_misses(to: &impl Print) -> io::Result<()> {
-    text(to, b"two tags of one name in two scopes: ")?;
-    judge(to, edits::set(TAGS, 4, edits::SYMBOL_NAME, 0))?;
-    text(to, b"one ID in two scopes: ")?;
-    judge(to, edits::set(TAGS, 3, edits::ID, 1))?;
-    text(to, b"two tags that touch: ")?;
-    judge(to, edits::set(TAGS, 1, edits::PLACE, 4))?;
-    text(to, b"two other symbols of one name: ")?;
-    judge(to, edits::set(OTHERS, 1, edits::SYMBOL_NAME, 60))?;
-    text(to, b"a name of 40 bytes: ")?;
-    judge(to, edits::set(TAGS, 0, edits::SYMBOL_NAME_LENGTH, 40))
+    print!(to; "two tags of one name in two scopes: ")?;
+    judge(to, Edit::Word(Table::Tags, 4, TAG_NAME_START, 0))?;
+    print!(to; "one ID in two scopes: ")?;
+    judge(to, Edit::Word(Table::Tags, 3, TAG_ID, 1))?;
+    print!(to; "two tags that touch: ")?;
+    judge(to, Edit::Word(Table::Tags, 1, TAG_OFFSET, 4))?;
+    print!(to; "two other symbols of one name: ")?;
+    judge(to, Edit::Word(Table::Others, 1, OTHER_NAME_START, 60))?;
+    print!(to; "a name of 40 bytes: ")?;
+    judge(to, Edit::Word(Table::Tags, 0, TAG_NAME_LENGTH, 40))
 }
 
 fn main(rt: HostRuntime) -> io::Result<()> {
     let to = rt.stdout();
     broken(&to)?;
-    judge(&to, edits::nothing())?;
+    judge(&to, Edit::Nothing)?;
     near_misses(&to)
 }

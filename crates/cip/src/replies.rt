@@ -35,5 +35,5 @@ pub fn refuse(service: u8, status: Status, limit: usize, buf: &mut [u8]) -> usiz
 pub fn space_of(limit: usize) -> usize
     ensures { result ≡ limit - 4 }
 {
-    if limit < HEADER { 0 } else { limit - HEADER }
+    limit.saturating_sub(HEADER)
 }

@@ -14,16 +14,25 @@ ghost use Rattle.services.specs.Answers.{Answers};
 ghost use Rattle.whole.specs.Whole.{whole_read};
 ghost use Rattle.whole.specs.Lists.{whole_list};
 ghost use Rattle.tables.specs.Rules.{told_of};
-ghost use Rattle.ciplink.specs.Entries.{flags_in, ToldReply, whole_code, ToldWhole, told_words};
+ghost use Rattle.ciplink.specs.Entries.{flags_in, ToldReply, unjoined_code, whole_code, ToldWhole, told_words};
 
-use cip::numbers;
-use logix::entry::Outcome;
-use model::Flags;
-use tables::rules::Told;
-use whole::Whole;
+use model::{Controller, Flags, Tables};
+use tables::rules::Breach;
+use whole::Unjoined;
+use whole::pages::Listing;
+use whole::requests::Read;
 
 /// What a refusal's number is added to: no reply is so long.
 const REFUSED: u64 = 0x1_0000_0000;
+
+/// Why nothing was joined.
+const TURNED: u64 = 0x2_0000_0000;
+
+const TOO_SHORT: u64 = 0x3_0000_0000;
+
+const TOO_NARROW: u64 = 0x4_0000_0000;
+
+const UNSENDABLE: u64 = 0x5_0000_0000;
 
 /// Flags by their bits.
 fn flags_of(word: u32) -> Flags
@@ -37,257 +46,139 @@ fn flags_of(word: u32) -> Flags
     }
 }
 
-/// Why nothing was joined.
-const TURNED: u64 = 0x2_0000_0000;
+/// The controller of these tables, with flags by their bits.
+fn controller<'a>(t: &Tables<'a>, flags: u32) -> Controller<'a>
+    ensures tables { tables_of result.tables ≡ tables_of t.now }
+    ensures flags { flags_of result.flags ≡ flags_in flags }
+{
+    Controller {
+        tables: *t,
+        flags: flags_of(flags),
+    }
+}
 
-const TOO_SHORT: u64 = 0x3_0000_0000;
-
-const TOO_NARROW: u64 = 0x4_0000_0000;
-
-const UNSENDABLE: u64 = 0x5_0000_0000;
+/// Why nothing was joined, in 64 bits.
+fn unjoined_code(why: Unjoined) -> u64
+    ensures { result ≡ unjoined_code why }
+{
+    match why {
+        Unjoined::Refused(refusal) => REFUSED + refusal.number(),
+        Unjoined::Turned(status) => TURNED + u64::from(status.code()),
+        Unjoined::TooShort(n) => TOO_SHORT + n as u64 % REFUSED,
+        Unjoined::TooNarrow => TOO_NARROW,
+        Unjoined::Unsendable => UNSENDABLE,
+    }
+}
 
 /// What a whole read or a whole list comes to, in 64 bits.
-fn whole_code(w: Whole) -> u64
+fn whole_code(w: Result<usize, Unjoined>) -> u64
     ensures { result ≡ whole_code w }
 {
     match w {
-        Whole::Joined(n) => numbers::long_size(n),
-        Whole::Refused(number) => REFUSED + number as u64,
-        Whole::Turned(status) => TURNED + status as u64,
-        Whole::TooShort(n) => TOO_SHORT + numbers::long_size(n) % REFUSED,
-        Whole::TooNarrow => TOO_NARROW,
-        Whole::Unsendable => UNSENDABLE,
+        Ok(n) => n as u64,
+        Err(why) => unjoined_code(why),
     }
 }
 
 /// 1 if the tables are valid by T1 to T6 for this tag memory, else 0.
-pub fn ciplink_valid(
-    structures: &[[u32; 10]],
-    members: &[[u32; 9]],
-    programs: &[[u32; 2]],
-    tags: &[[u32; 12]],
-    others: &[[u32; 5]],
-    names: &[u8],
-    tag_names: &[u8],
-    templates: &[u8],
-    memory: &[u8],
-) -> u32
-    ensures { let t = tables_of structures.now members.now programs.now tags.now
-        others.now names.now tag_names.now templates.now in
-        result ≡ pick (valid t (length memory.now)) 1 0 }
+pub fn ciplink_valid(t: &Tables, memory: &[u8]) -> u32
+    ensures { result ≡ pick (valid (tables_of t.now) (length memory.now)) 1 0 }
 {
-    if tables::valid(
-        structures, members, programs, tags, others, names, tag_names, templates, memory,
-    ) {
-        return 1;
-    }
-    0
+    u32::from(tables::valid(t, memory))
 }
 
 /// The words of what is told: rule, table, row, the other row's table and the other row.
-fn words_of(t: Told) -> [u64; 5]
-    ensures { result ≡ told_words (told_of t) }
+fn words_of(told: Option<Breach>) -> [u64; 5]
+    ensures { result ≡ told_words (told_of told) }
 {
-    match t {
-        Told::Fine => [0; 5],
-        Told::Broken(b) => [
-            numbers::long(b.rule),
-            numbers::long(b.table),
-            numbers::long_size(b.row),
-            numbers::long(b.other_table),
-            numbers::long_size(b.other),
-        ],
-    }
+    let Some(b) = told else {
+        return [0; 5];
+    };
+    let (table, row) = match b.other {
+        Some(other) => (u64::from(other.table.number()), other.row as u64),
+        None => (0, 0),
+    };
+    [
+        u64::from(b.rule.number()),
+        u64::from(b.at.table.number()),
+        b.at.row as u64,
+        table,
+        row,
+    ]
 }
 
 /// The rule that the tables break first, 0 where they are valid; `told` says where.
-pub fn ciplink_breach(
-    structures: &[[u32; 10]],
-    members: &[[u32; 9]],
-    programs: &[[u32; 2]],
-    tags: &[[u32; 12]],
-    others: &[[u32; 5]],
-    names: &[u8],
-    tag_names: &[u8],
-    templates: &[u8],
-    memory: &[u8],
-    told: &mut [u64; 5],
-) -> u64
-    ensures { let t = tables_of structures.now members.now programs.now tags.now
-        others.now names.now tag_names.now templates.now in
-        let words = told_words (breach t (length memory.now)) in
+pub fn ciplink_breach(t: &Tables, memory: &[u8], told: &mut [u64; 5]) -> u64
+    ensures { let words = told_words (breach (tables_of t.now) (length memory.now)) in
         (result ≡ get_or words 0 0) × (told.new ≡ words) }
 {
-    let words = words_of(tables::breach(
-        structures, members, programs, tags, others, names, tag_names, templates, memory,
-    ));
-    *told = words;
-    words[0]
+    *told = words_of(tables::breach(t, memory));
+    told[0]
 }
 
 /// Answers a request over tables that ciplink_valid took, within the limits of items 1 to 3: the reply's length.
 pub fn ciplink_answer(
-    structures: &[[u32; 10]],
-    members: &[[u32; 9]],
-    programs: &[[u32; 2]],
-    tags: &[[u32; 12]],
-    others: &[[u32; 5]],
-    names: &[u8],
-    tag_names: &[u8],
-    templates: &[u8],
+    t: &Tables,
     flags: u32,
     memory: &mut [u8],
     request: &[u8],
     limit: usize,
     buf: &mut [u8],
 ) -> u64
-    requires { let t = tables_of structures.now members.now programs.now tags.now others.now names.now tag_names.now templates.now in
-        (length request.now ≤ 65535) × (limit ≤ 65535) × (room limit ≤ length buf.old) × (valid t (length memory.old) ≡ true) }
-    ensures { let t = tables_of structures.now members.now programs.now tags.now
-        others.now names.now tag_names.now templates.now in
-        Answers limit (answer t (flags_in flags) memory.old request.now limit) buf.old result buf.new
-        memory.new }
+    requires { (length request.now ≤ 65535) × (limit ≤ 65535) × (room limit ≤ length buf.old)
+        × (valid (tables_of t.now) (length memory.old) ≡ true) }
+    ensures { Answers limit (answer (tables_of t.now) (flags_in flags) memory.old request.now limit) buf.old result buf.new memory.new }
 {
-    numbers::long_size(logix::entry::answer(
-        structures,
-        members,
-        programs,
-        tags,
-        others,
-        names,
-        tag_names,
-        templates,
-        flags_of(flags),
-        memory,
-        request,
-        limit,
-        buf,
-    ))
+    logix::entry::answer(&controller(t, flags), memory, request, limit, buf) as u64
 }
 
 /// Answers any request over any tables: the reply's length, or 0x1_0000_0000 plus the number of an entry refusal, which changes nothing.
 pub fn ciplink_message(
-    structures: &[[u32; 10]],
-    members: &[[u32; 9]],
-    programs: &[[u32; 2]],
-    tags: &[[u32; 12]],
-    others: &[[u32; 5]],
-    names: &[u8],
-    tag_names: &[u8],
-    templates: &[u8],
+    t: &Tables,
     flags: u32,
     memory: &mut [u8],
     request: &[u8],
     limit: usize,
     buf: &mut [u8],
 ) -> u64
-    ensures { let t = tables_of structures.now members.now programs.now tags.now
-        others.now names.now tag_names.now templates.now in
-        ToldReply (entry t (flags_in flags) memory.old request.now limit buf.old) result buf.new
-        memory.new }
+    ensures { ToldReply (entry (tables_of t.now) (flags_in flags) memory.old request.now limit buf.old) result buf.new memory.new }
 {
-    match logix::entry::message(
-        structures,
-        members,
-        programs,
-        tags,
-        others,
-        names,
-        tag_names,
-        templates,
-        flags_of(flags),
-        memory,
-        request,
-        limit,
-        buf,
-    ) {
-        Outcome::Reply(n) => numbers::long_size(n),
-        Outcome::Refused(why) => REFUSED + logix::entry::number_of(why),
+    match logix::entry::message(&controller(t, flags), memory, request, limit, buf) {
+        Ok(n) => n as u64,
+        Err(why) => REFUSED + why.number(),
     }
 }
 
 /// Reads all of what a path and an element count select into `out`: the number of bytes joined, or why nothing was (ciplink.h has the numbers).
 pub fn ciplink_read_whole(
-    structures: &[[u32; 10]],
-    members: &[[u32; 9]],
-    programs: &[[u32; 2]],
-    tags: &[[u32; 12]],
-    others: &[[u32; 5]],
-    names: &[u8],
-    tag_names: &[u8],
-    templates: &[u8],
+    t: &Tables,
     flags: u32,
     memory: &mut [u8],
-    path: &[u8],
-    elements: u16,
+    read: &Read,
     limit: usize,
     buf: &mut [u8],
     out: &mut [u8],
 ) -> u64
-    ensures { let t = tables_of structures.now members.now programs.now tags.now
-        others.now names.now tag_names.now templates.now in
-        ToldWhole (whole_read t (flags_in flags) memory.old path.now elements limit buf.old out.old) result
-        out.new buf.new × (memory.new ≡ memory.old) }
+    ensures { ToldWhole (whole_read (tables_of t.now) (flags_in flags) memory.old read.now.path.now read.now.elements limit buf.old out.old)
+        result out.new buf.new × (memory.new ≡ memory.old) }
 {
-    whole_code(whole::read_whole(
-        structures,
-        members,
-        programs,
-        tags,
-        others,
-        names,
-        tag_names,
-        templates,
-        flags_of(flags),
-        memory,
-        path,
-        elements,
-        limit,
-        buf,
-        out,
-    ))
+    whole_code(whole::read_whole(&controller(t, flags), memory, read, limit, buf, out))
 }
 
 /// Lists all symbols of a scope into `out`: the number of bytes joined, or why nothing was (ciplink.h has the numbers).
 pub fn ciplink_list_whole(
-    structures: &[[u32; 10]],
-    members: &[[u32; 9]],
-    programs: &[[u32; 2]],
-    tags: &[[u32; 12]],
-    others: &[[u32; 5]],
-    names: &[u8],
-    tag_names: &[u8],
-    templates: &[u8],
+    t: &Tables,
     flags: u32,
     memory: &mut [u8],
-    program: &[u8],
-    attributes: &[u8],
+    listing: &Listing,
     limit: usize,
     buf: &mut [u8],
     out: &mut [u8],
 ) -> u64
-    ensures { let t = tables_of structures.now members.now programs.now tags.now
-        others.now names.now tag_names.now templates.now in
-        ToldWhole (whole_list t (flags_in flags) memory.old program.now attributes.now limit buf.old
-        out.old) result out.new buf.new × (memory.new ≡ memory.old) }
+    ensures { ToldWhole (whole_list (tables_of t.now) (flags_in flags) memory.old listing.now.program.now listing.now.attributes.now limit
+        buf.old out.old) result out.new buf.new × (memory.new ≡ memory.old) }
 {
-    whole_code(whole::lists::list_whole(
-        structures,
-        members,
-        programs,
-        tags,
-        others,
-        names,
-        tag_names,
-        templates,
-        flags_of(flags),
-        memory,
-        program,
-        attributes,
-        limit,
-        buf,
-        out,
-    ))
+    whole_code(whole::lists::list_whole(&controller(t, flags), memory, listing, limit, buf, out))
 }
 
 /// Joins the masks of a masked write with those of the next one to the same target, in the place of the first pair: 1, or 0 where
@@ -296,8 +187,5 @@ pub fn ciplink_join_masks(ors: &mut [u8], ands: &mut [u8], next_ors: &[u8], next
     ensures { let first = pair ors.old ands.old in let next = pair next_ors.now next_ands.now in
         (result ≡ pick (joinable first next) 1 0) × (pair ors.new ands.new ≡ joined_to first next) }
 {
-    if writes::masks::join_masks(ors, ands, next_ors, next_ands) {
-        return 1;
-    }
-    0
+    u32::from(writes::masks::join_masks(ors, ands, next_ors, next_ands))
 }

@@ -10,11 +10,40 @@ ghost use Rattle.definition.specs.Breach.{breach};
 ghost use Rattle.definition.specs.Answer.{answer};
 ghost use Rattle.definition.specs.Entry.{entry};
 ghost use Rattle.definition.specs.Joined.{pair, joinable, joined_to};
-ghost use Rattle.model.specs.Tables.{tables_of};
+ghost use Rattle.model.specs.Tables.{tables_of, tables_from};
 ghost use Rattle.services.specs.Answers.{Answers};
 ghost use Rattle.whole.specs.Whole.{whole_read};
 ghost use Rattle.whole.specs.Lists.{whole_list};
 ghost use Rattle.ciplink.specs.Entries.{flags_in, ToldReply, ToldWhole, told_words};
+
+use model::Tables;
+use whole::pages::Listing;
+use whole::requests::Read;
+
+/// Eight slices as one table set.
+fn lent<'a>(
+    structures: &'a [[u32; 10]],
+    members: &'a [[u32; 9]],
+    programs: &'a [[u32; 2]],
+    tags: &'a [[u32; 12]],
+    others: &'a [[u32; 5]],
+    names: &'a [u8],
+    tag_names: &'a [u8],
+    templates: &'a [u8],
+) -> Tables<'a>
+    ensures { tables_of result ≡ tables_from structures.now members.now programs.now tags.now others.now names.now tag_names.now templates.now }
+{
+    Tables {
+        structures,
+        members,
+        programs,
+        tags,
+        others,
+        names,
+        tag_names,
+        templates,
+    }
+}
 
 /// 1 if the tables are valid by T1 to T6 for this tag memory, else 0.
 #[unsafe(no_mangle)]
@@ -29,13 +58,14 @@ pub extern "C" fn ciplink_valid(
     templates: &[u8],
     memory: &[u8],
 ) -> u32
-    ensures { let t = tables_of structures.now members.now programs.now tags.now
+    ensures { let t = tables_from structures.now members.now programs.now tags.now
         others.now names.now tag_names.now templates.now in
         result ≡ pick (valid t (length memory.now)) 1 0 }
 {
-    ciplink::ciplink_valid(
-        structures, members, programs, tags, others, names, tag_names, templates, memory,
-    )
+    let t = lent(
+        structures, members, programs, tags, others, names, tag_names, templates,
+    );
+    ciplink::ciplink_valid(&t, memory)
 }
 
 /// The rule that the tables break first, 0 where they are valid; `told` says where.
@@ -52,14 +82,15 @@ pub extern "C" fn ciplink_breach(
     memory: &[u8],
     told: &mut [u64; 5],
 ) -> u64
-    ensures { let t = tables_of structures.now members.now programs.now tags.now
+    ensures { let t = tables_from structures.now members.now programs.now tags.now
         others.now names.now tag_names.now templates.now in
         let words = told_words (breach t (length memory.now)) in
         (result ≡ get_or words 0 0) × (told.new ≡ words) }
 {
-    ciplink::ciplink_breach(
-        structures, members, programs, tags, others, names, tag_names, templates, memory, told,
-    )
+    let t = lent(
+        structures, members, programs, tags, others, names, tag_names, templates,
+    );
+    ciplink::ciplink_breach(&t, memory, told)
 }
 
 /// Answers a request over tables that ciplink_valid took, within the limits of items 1 to 3: the reply's length.
@@ -79,17 +110,17 @@ pub extern "C" fn ciplink_answer(
     limit: usize,
     buf: &mut [u8],
 ) -> u64
-    requires { let t = tables_of structures.now members.now programs.now tags.now others.now names.now tag_names.now templates.now in
+    requires { let t = tables_from structures.now members.now programs.now tags.now others.now names.now tag_names.now templates.now in
         (length request.now ≤ 65535) × (limit ≤ 65535) × (room limit ≤ length buf.old) × (valid t (length memory.old) ≡ true) }
-    ensures { let t = tables_of structures.now members.now programs.now tags.now
+    ensures { let t = tables_from structures.now members.now programs.now tags.now
         others.now names.now tag_names.now templates.now in
         Answers limit (answer t (flags_in flags) memory.old request.now limit) buf.old result buf.new
         memory.new }
 {
-    ciplink::ciplink_answer(
-        structures, members, programs, tags, others, names, tag_names, templates, flags, memory,
-        request, limit, buf,
-    )
+    let t = lent(
+        structures, members, programs, tags, others, names, tag_names, templates,
+    );
+    ciplink::ciplink_answer(&t, flags, memory, request, limit, buf)
 }
 
 /// Answers any request over any tables: the reply's length, or 0x1_0000_0000 plus the number of an entry refusal, which changes nothing.
@@ -109,15 +140,15 @@ pub extern "C" fn ciplink_message(
     limit: usize,
     buf: &mut [u8],
 ) -> u64
-    ensures { let t = tables_of structures.now members.now programs.now tags.now
+    ensures { let t = tables_from structures.now members.now programs.now tags.now
         others.now names.now tag_names.now templates.now in
         ToldReply (entry t (flags_in flags) memory.old request.now limit buf.old) result buf.new
         memory.new }
 {
-    ciplink::ciplink_message(
-        structures, members, programs, tags, others, names, tag_names, templates, flags, memory,
-        request, limit, buf,
-    )
+    let t = lent(
+        structures, members, programs, tags, others, names, tag_names, templates,
+    );
+    ciplink::ciplink_message(&t, flags, memory, request, limit, buf)
 }
 
 /// Reads all of what a path and an element count select into `out`: the number of bytes joined, or why nothing was (ciplink.h has the numbers).
@@ -139,15 +170,16 @@ pub extern "C" fn ciplink_read_whole(
     buf: &mut [u8],
     out: &mut [u8],
 ) -> u64
-    ensures { let t = tables_of structures.now members.now programs.now tags.now
+    ensures { let t = tables_from structures.now members.now programs.now tags.now
         others.now names.now tag_names.now templates.now in
         ToldWhole (whole_read t (flags_in flags) memory.old path.now elements limit buf.old out.old) result
         out.new buf.new × (memory.new ≡ memory.old) }
 {
-    ciplink::ciplink_read_whole(
-        structures, members, programs, tags, others, names, tag_names, templates, flags, memory,
-        path, elements, limit, buf, out,
-    )
+    let t = lent(
+        structures, members, programs, tags, others, names, tag_names, templates,
+    );
+    let read = Read { path, elements };
+    ciplink::ciplink_read_whole(&t, flags, memory, &read, limit, buf, out)
 }
 
 /// Lists all symbols of a scope into `out`: the number of bytes joined, or why nothing was (ciplink.h has the numbers).
@@ -169,15 +201,19 @@ pub extern "C" fn ciplink_list_whole(
     buf: &mut [u8],
     out: &mut [u8],
 ) -> u64
-    ensures { let t = tables_of structures.now members.now programs.now tags.now
+    ensures { let t = tables_from structures.now members.now programs.now tags.now
         others.now names.now tag_names.now templates.now in
         ToldWhole (whole_list t (flags_in flags) memory.old program.now attributes.now limit buf.old
         out.old) result out.new buf.new × (memory.new ≡ memory.old) }
 {
-    ciplink::ciplink_list_whole(
-        structures, members, programs, tags, others, names, tag_names, templates, flags, memory,
-        program, attributes, limit, buf, out,
-    )
+    let t = lent(
+        structures, members, programs, tags, others, names, tag_names, templates,
+    );
+    let listing = Listing {
+        program,
+        attributes,
+    };
+    ciplink::ciplink_list_whole(&t, flags, memory, &listing, limit, buf, out)
 }
 
 /// Joins the masks of a masked write with those of the next one to the same target, in the place of the first pair: 1, or 0 where

@@ -5,4 +5,3 @@
 pub mod join;
 pub mod lines;
 pub mod reply;
-pub mod say;

@@ -2,7 +2,6 @@
 ghost use Rattle.std.specs.Prelude.{◌≡◌, ◌<◌, ◌≤◌, true, length, take, IfOk, OnErr};
 ghost use Rattle.input.specs.Text.{More};
 
-use crate::say;
 use input::hex::Fault;
 use input::lines::Cursor;
 use std::io;
@@ -10,22 +9,21 @@ use std::io::Read;
 
 /// A line that fills the buffer is said to be too long once; what comes of it further on is dropped.
 pub fn overflow(to: &impl Print, place: Cursor) -> io::Result<Cursor>
-    ensures { IfOk result (λ next. (next.at ≡ 0) × (next.line ≡ place.line) × (next.skipping ≡ true) × (next.open ≡ true)) }
+    ensures { IfOk result (λ next. (next.at ≡ 0) × (next.line ≡ place.line) × (next.skipping ≡ true)) }
 {
     if !place.skipping {
-        say::about_line(to, place.line, b"longer than 262143 characters")?;
+        println!(to; "line {}: longer than 262143 characters", place.line)?;
     }
     Ok(Cursor {
         at: 0,
-        line: place.line,
         skipping: true,
-        open: true,
+        ..place
     })
 }
 
-/// Reads once behind what is there and answers the new end: `ended` of the number of bytes that came. A read that fails
-/// changes nothing of what was there.
-pub fn read_more(from: &mut impl Read, input: &mut [u8], at: usize) -> io::Result<usize>
+/// Reads once behind what is there and answers the new end, none where the input has ended: `ended` of the number of bytes
+/// that came. A read that fails changes nothing of what was there.
+pub fn read_more(from: &mut impl Read, input: &mut [u8], at: usize) -> io::Result<Option<usize>>
     requires { at < length input.old }
     ensures came { IfOk result (λ end. More at input.old input.new end) }
     ensures failed { OnErr result ((take at input.new ≡ take at input.old) × (length input.new ≡ length input.old)) }
@@ -51,11 +49,5 @@ pub fn read_full(from: &mut impl Read, input: &mut [u8]) -> io::Result<usize>
 
 /// Says what keeps a line from being a request.
 pub fn complain(to: &impl Print, line: u64, f: Fault) -> io::Result<()> {
-    match f {
-        Fault::Digit => say::about_line(to, line, b"not a hex digit"),
-        Fault::Odd => say::about_line(to, line, b"an odd number of hex digits"),
-        Fault::NoNumber => say::about_line(to, line, b"the limit is not a number"),
-        Fault::OverLimit => say::about_line(to, line, b"the limit is over 65535"),
-        Fault::TooLong => say::about_line(to, line, b"the request is longer than 65535 bytes"),
-    }
+    println!(to; "line {line}: {f}")
 }

@@ -18,7 +18,8 @@ use Rattle.definition.proofs.Joined.{accepted-reply, masking_first, masks-join, 
 use Rattle.continued.specs.Reads.{Sent}
 use Rattle.continued.specs.Point3.{Memory, respond}
 use Rattle.continued.specs.Program.{ProgramStep, Faithful, ByMessage}
-use Rattle.continued.specs.Clicks.{Accepted, MasksAt, Single, acceptance, Joins, Clicked, none_clicked, clicked, RowJoins, NoChange, ProgramJoins, MessageJoins, Rests}
+use Rattle.continued.specs.Clicks.{Accepted, MasksAt, Single, acceptance, Joins, Clicked, none_clicked, clicked, RowJoins, NoChange, ProgramJoins}
+use Rattle.continued.specs.Clicks.{MessageJoins, Rests}
 use Rattle.continued.proofs.Program.{message_faithful}
 
 module _ (t : Tables) (f : Flags) (step : ProgramStep) (faithful : Faithful t f step) where

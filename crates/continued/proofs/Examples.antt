@@ -18,7 +18,8 @@ use Rattle.definition.specs.Entry.{Entered, refuse, entry}
 use Rattle.definition.specs.Promises.{Grants}
 use Rattle.continued.specs.Reads.{Sent, Turn, ours, other, Answered, joined, least_limit, heard, talk, Fair}
 use Rattle.continued.specs.Pages.{FairPages}
-use Rattle.continued.specs.Point3.{respond, hears, leaves, Event, message, changed, steps, Between, Asks, Reads, FairReads, ReadsDeliver, Pages, FairList, PagesDeliver, Encodes, read_request, open_request, page_request}
+use Rattle.continued.specs.Point3.{respond, hears, leaves, Event, message, changed, steps, Between, Asks, Reads, FairReads, ReadsDeliver, Pages}
+use Rattle.continued.specs.Point3.{FairList, PagesDeliver, Encodes, read_request, open_request, page_request}
 use Rattle.continued.proofs.Point3.{plain_at_0, continued_reads, continued_pages}
 use Rattle.continued.proofs.Requests.{service_first, exact_asks, exact_opens}
 

@@ -31,7 +31,9 @@ use Rattle.definition.proofs.Listing.{listing_sorted, listing-some}
 use Rattle.definition.proofs.Selected.{granted-some}
 use Rattle.definition.proofs.Stored.{memory_keeps_its_length}
 use Rattle.continued.specs.Reads.{Sent, Turn, Replied}
-use Rattle.continued.specs.Point3.{Memory, respond, hears, leaves, Event, message, changed, steps, Between, Asks, PlainAt0, Reads, FairReads, ReadsDeliver, ContinuedReads, AsksPage, Pages, FairList, PagesDeliver, ContinuedPages, read_request, Readable, ExactReads, ExactReadsDeliver, page_request, ExactPages, ExactPagesDeliver}
+use Rattle.continued.specs.Point3.{Memory, respond, hears, leaves, Event, message, changed, steps, Between, Asks, PlainAt0, Reads, FairReads}
+use Rattle.continued.specs.Point3.{ReadsDeliver, ContinuedReads, AsksPage, Pages, FairList, PagesDeliver, ContinuedPages, read_request, Readable}
+use Rattle.continued.specs.Point3.{ExactReads, ExactReadsDeliver, page_request, ExactPages, ExactPagesDeliver}
 use Rattle.continued.proofs.Talk.{SendsFragment, reads_deliver}
 use Rattle.continued.proofs.Listing.{pages_deliver}
 use Rattle.continued.proofs.Requests.{service_first, exact_asks, exact_page}

@@ -2,6 +2,7 @@
 -- Assumes nothing.
 use mathlib.Core.Path.{◌≡◌, refl, ap, ◌∙◌}
 use mathlib.Core.List.{List, [], ◌∷◌}
+use Rattle.std.specs.Prelude.{Result, Ok, Err}
 use Prim.Native.Nat.{ℕ, zero, suc, ◌≤◌, ◌<◌}
 use native.Mathlib.Omega.{arith}
 use lib.ListN.{length, take}
@@ -16,11 +17,10 @@ use Rattle.definition.proofs.Enters.{Ways, stopped, taken, enters}
 use Rattle.logix.specs.Entering.{IsOutcome, number_of}
 use Rattle.logix.specs.declared.entry.Refusal.{Refusal}
 use Rattle.logix.specs.declared.entry.Refusal.TheVariants.{RequestTooLong, LimitTooLarge, BufferTooShort, TablesInvalid}
-use Rattle.logix.specs.declared.entry.Outcome.{Outcome as Result}
-use Rattle.logix.specs.declared.entry.Outcome.TheVariants.{Reply, Refused}
 use Rattle.continued.specs.Reads.{Sent, Turn, ours, other, Answered, heard, talk}
 use Rattle.continued.specs.Point3.{Memory, respond, hears, leaves, Event, message, changed, steps}
-use Rattle.continued.specs.Program.{Runs, ended, next_ours, next_other, ProgramStep, ByStep, ByEvent, RunsOf, Leaves, Faithful, Total, ReadsDelivered, PagesListed, ProgramPoint3, RunsExist, told, ByMessage, Taken, ByAnswer, MessagePoint3, AnswerPoint3}
+use Rattle.continued.specs.Program.{Runs, ended, next_ours, next_other, ProgramStep, ByStep, ByEvent, RunsOf, Leaves, Faithful, Total, ReadsDelivered}
+use Rattle.continued.specs.Program.{PagesListed, ProgramPoint3, RunsExist, told, ByMessage, Taken, ByAnswer, MessagePoint3, AnswerPoint3}
 use Rattle.continued.proofs.Point3.{continued_reads, continued_pages}
 
 -- ---- over any states and events: a run whose turns leave what the controller leaves hears what it says
@@ -103,7 +103,8 @@ told_is t f s m = go (enters t f m s.request s.limit s.buffer)
     go (taken a b c d e) = rw e (ap replied (take-laid (room s.limit) s.buffer (answer t f m s.request s.limit).reply))
 
 pub leaves_by : (t : Tables) (f : Flags) (s : Sent) (m : Memory) (o : Outcome) (buffer left : List ℕ)
-    → o ≡ told_as (respond t f s m).outcome buffer → buffer ≡ (respond t f s m).buffer → left ≡ (respond t f s m).memory → Leaves (respond t f s m) o buffer left
+    → o ≡ told_as (respond t f s m).outcome buffer → buffer ≡ (respond t f s m).buffer → left ≡ (respond t f s m).memory
+    → Leaves (respond t f s m) o buffer left
 leaves_by t f s m o buffer left e b l = record {
   outcome_is = e ∙ ap (told_as (respond t f s m).outcome) b ∙ told_is t f s m;
   buffer_is = b;
@@ -112,11 +113,11 @@ leaves_by t f s m o buffer left e b l = record {
 
 -- ---- `message`
 
-told_says : (r : Result) (d : Outcome) (buffer : List ℕ) → IsOutcome r d → told r buffer ≡ told_as d buffer
-told_says (Reply n) (replied bytes) buffer e = rw e refl
-told_says (Reply n) (refused number) buffer e = absurd e
-told_says (Refused why) (replied bytes) buffer e = absurd e
-told_says (Refused why) (refused number) buffer e = rw e refl
+told_says : (r : Result ℕ Refusal) (d : Outcome) (buffer : List ℕ) → IsOutcome r d → told r buffer ≡ told_as d buffer
+told_says (Ok n) (replied bytes) buffer e = rw e refl
+told_says (Ok n) (refused number) buffer e = absurd e
+told_says (Err why) (replied bytes) buffer e = absurd e
+told_says (Err why) (refused number) buffer e = rw e refl
 
 refusal_by : (number : ℕ) → 0 < number → number ≤ 4 → (why : Refusal) × (number_of why ≡ number)
 refusal_by zero a b = absurd (omega arith)
@@ -127,13 +128,13 @@ refusal_by (suc (suc (suc (suc zero)))) a b = (TablesInvalid, refl)
 refusal_by (suc (suc (suc (suc (suc n))))) a b = absurd (omega arith)
 
 -- some result says the entry's outcome
-result_of : (t : Tables) (f : Flags) (s : Sent) (m : Memory) → (r : Result) × IsOutcome r (respond t f s m).outcome
+result_of : (t : Tables) (f : Flags) (s : Sent) (m : Memory) → (r : Result ℕ Refusal) × IsOutcome r (respond t f s m).outcome
 unfolding respond
 result_of t f s m = go (enters t f m s.request s.limit s.buffer)
   where
-    go : Ways t f m s.request s.limit s.buffer → (r : Result) × IsOutcome r (respond t f s m).outcome
-    go (stopped number a b e) = let x = refusal_by number a b in (Refused x.0, rw e x.1)
-    go (taken a b c d e) = (Reply (length (answer t f m s.request s.limit).reply), rw e refl)
+    go : Ways t f m s.request s.limit s.buffer → (r : Result ℕ Refusal) × IsOutcome r (respond t f s m).outcome
+    go (stopped number a b e) = let x = refusal_by number a b in (Err x.0, rw e x.1)
+    go (taken a b c d e) = (Ok (length (answer t f m s.request s.limit).reply), rw e refl)
 
 pub message_faithful : (t : Tables) (f : Flags) → Faithful t f (ByMessage t f)
 message_faithful t f s m o buffer left (r, e, x) =

@@ -3,7 +3,7 @@
 use mathlib.Core.Path.{◌≡◌, refl, ◌∙◌}
 use mathlib.Core.Bool.{Bool, true, false}
 use mathlib.Core.List.{List, [], ◌∷◌, ◌++◌, append_assoc}
-use mathlib.Core.Option.{Option, none, some}
+use Rattle.std.specs.Prelude.{Option, None, Some}
 use Prim.Native.Nat.{ℕ, ◌+◌, ◌*◌, ◌/◌, ◌≤◌, ◌<◌}
 use native.Mathlib.Nat.{div-div-eq-div-mul}
 use native.Mathlib.Omega.{arith}
@@ -24,7 +24,8 @@ use Rattle.definition.specs.Read.{read_fields}
 use Rattle.definition.specs.Symbols.{is_listed}
 use Rattle.definition.specs.Answer.{by_service, plain, answer}
 use Rattle.definition.proofs.OneRead.{past_objects}
-use Rattle.continued.specs.Point3.{Memory, Asks, FragmentedAsks, PlainAsks, AsksPage, Encodes, read_request, open_request, number_bytes, page_request, StartsPageAt}
+use Rattle.continued.specs.Point3.{Memory, Asks, FragmentedAsks, PlainAsks, AsksPage, Encodes, read_request, open_request, number_bytes, page_request}
+use Rattle.continued.specs.Point3.{StartsPageAt}
 
 -- ---- numbers and their bytes
 
@@ -43,7 +44,7 @@ unfolding numbers
 numbers_back [] more a = refl
 numbers_back (n ∷ ns) more a = rw (u16_le16 n (number_bytes ns ++ more) a.0, numbers_back ns more a.1)
 
-counted_back : (ns more : List ℕ) → length ns < 65536 → All (λ n. n < 65536) ns → counted (le16 (length ns) ++ (number_bytes ns ++ more)) ≡ some ns
+counted_back : (ns more : List ℕ) → length ns < 65536 → All (λ n. n < 65536) ns → counted (le16 (length ns) ++ (number_bytes ns ++ more)) ≡ Some ns
 unfolding counted
 counted_back ns more h a =
     let fits : 2 + 2 * length ns ≤ length
@@ -86,8 +87,8 @@ service_first message service path body e =
   where
     go : (l : Option (List Segment)) → with_path (get_or message 0 0) l (drop (2 + 2 * get_or message 1 0) message) ≡ request service path body
         → get_or message 0 0 ≡ service
-    go none q = clash (cc q)
-    go (some l) q = cc
+    go None q = clash (cc q)
+    go (Some l) q = cc
 
 -- ---- exact bytes, with any data behind them, are a continued read and a continued page
 

@@ -1,6 +1,6 @@
 -- Point 3 of document 00, said of the definition itself: what is sent, what else may happen, and what has to hold of it. The claims stand in Reads and Pages.
 use Rattle.std.specs.Prelude.{◌≡◌, true, false, List, [], ◌∷◌, ◌++◌, ℕ, ◌*◌, ◌/◌, ◌≤◌, ◌<◌, length}
-use Rattle.std.proofs.Math.Option.{some}
+use Rattle.std.specs.Prelude.{Some}
 use Rattle.laws.specs.Tests.{every}
 use Rattle.definition.specs.Bytes.{u16_at, u32_at, le16, le32, counted}
 use Rattle.definition.specs.Segment.{Segment, segments}
@@ -94,8 +94,8 @@ pub record AsksPage (t : Tables) (scope : ℕ) (attributes : List ℕ) (message 
   pub path : List Segment
   pub body : List ℕ
   pub is : request_of message ≡ request 0x55 path body
-  pub starts : page_start t path ≡ some (record { scope = scope; id = id })
-  pub list_is : counted body ≡ some attributes
+  pub starts : page_start t path ≡ Some (record { scope = scope; id = id })
+  pub list_is : counted body ≡ Some attributes
 
 abbrev pub Pages : Tables → (scope : ℕ) (attributes : List ℕ) → Memory → Sent → ℕ → Type 0
 Pages t scope attributes m s id = AsksPage t scope attributes s.request id
@@ -121,7 +121,7 @@ ContinuedPages =
 pub record Encodes (path : List ℕ) (decoded : List Segment) : Type 0 where
   pub whole_words : 2 * (length path / 2) ≡ length path
   pub one_byte : length path / 2 ≤ 255
-  pub decodes : segments path ≡ some decoded
+  pub decodes : segments path ≡ Some decoded
 
 -- the exact bytes of a 0x52 request for a path, an element count and an offset, and of a 0x4C request
 unfoldable pub read_request : (path : List ℕ) (elements offset : ℕ) → List ℕ
@@ -165,7 +165,7 @@ pub record Listable (t : Tables) (m : Memory) (attributes : List ℕ) : Type 0 w
 pub record StartsPageAt (t : Tables) (scope id : ℕ) (path : List ℕ) : Type 0 where
   pub decoded : List Segment
   pub encodes : Encodes path decoded
-  pub starts : page_start t decoded ≡ some (record { scope = scope; id = id })
+  pub starts : page_start t decoded ≡ Some (record { scope = scope; id = id })
 
 abbrev pub ExactPages : Tables → (scope : ℕ) (attributes : List ℕ) → Memory → Sent → ℕ → Type 0
 ExactPages t scope attributes m s id = (path : List ℕ) × StartsPageAt t scope id path × (s.request ≡ page_request path attributes)

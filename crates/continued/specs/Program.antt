@@ -1,6 +1,6 @@
 -- Point 3 of a program: a run over a list of turns, and what is heard of it. Nothing is known of the program but that each step leaves the definition's
 -- outcome, buffer and memory: `Leaves`. The contracts of `message` and of `answer` on valid tables give such steps; those of the C entry points in `ciplink`.
-use Rattle.std.specs.Prelude.{◌≡◌, true, List, [], ◌∷◌, ℕ, ◌≤◌, length, take}
+use Rattle.std.specs.Prelude.{◌≡◌, true, List, [], ◌∷◌, ℕ, ◌≤◌, length, take, Result, Ok, Err}
 use Rattle.laws.specs.Tests.{every}
 use Rattle.definition.specs.Reply.{room}
 use Rattle.definition.specs.Tables.{Tables, Flags}
@@ -13,8 +13,7 @@ use Rattle.definition.specs.Entry.{Outcome, refused, replied, Entered}
 use Rattle.definition.specs.Promises.{Grants}
 use Rattle.services.specs.Answers.{Answers}
 use Rattle.logix.specs.Entering.{number_of, Enters}
-use Rattle.logix.specs.declared.entry.Outcome.{Outcome as Result}
-use Rattle.logix.specs.declared.entry.Outcome.TheVariants.{Reply, Refused}
+use Rattle.logix.specs.declared.entry.Refusal.{Refusal}
 use Rattle.continued.specs.Reads.{Sent, Turn, ours, other, Answered, heard, Delivered}
 use Rattle.continued.specs.Pages.{Listed}
 use Rattle.continued.specs.Point3.{Memory, respond, Event, message, changed, Reads, FairReads, Pages, FairList}
@@ -90,12 +89,12 @@ RunsExist =
 -- ---- the steps of `message` and of `answer` on valid tables, by their contracts alone
 
 -- what a result of `message` tells: a reply is the buffer's first bytes
-abbrev pub told : Result → (buffer : List ℕ) → Outcome
-told (Reply n) buffer = replied (take n buffer)
-told (Refused why) buffer = refused (number_of why)
+abbrev pub told : Result ℕ Refusal → (buffer : List ℕ) → Outcome
+told (Ok n) buffer = replied (take n buffer)
+told (Err why) buffer = refused (number_of why)
 
 abbrev pub ByMessage : Tables → Flags → ProgramStep
-ByMessage t f s m o buffer left = (r : Result) × (o ≡ told r buffer) × Enters (respond t f s m) r buffer left
+ByMessage t f s m o buffer left = (r : Result ℕ Refusal) × (o ≡ told r buffer) × Enters (respond t f s m) r buffer left
 
 -- where `answer` may be called
 pub record Taken (t : Tables) (s : Sent) (m : Memory) : Type 0 where

@@ -3,7 +3,7 @@
 use mathlib.Core.Path.{◌≡◌, refl, sym, ◌∙◌, ap, fun_ext}
 use mathlib.Core.Bool.{Bool, true}
 use mathlib.Core.List.{List, [], ◌∷◌, map}
-use mathlib.Core.Option.{none}
+use Rattle.std.specs.Prelude.{None}
 use Prim.Native.Nat.{ℕ, ◌+◌, ◌-◌, ◌≤◌, ◌<◌}
 use native.Mathlib.Omega.{arith}
 use lib.Dec.{ltb, leb}
@@ -24,16 +24,16 @@ use Rattle.definition.specs.Told.{NoneExactlyWhereValid}
 abbrev pub Passed : Test → Type 0
 Passed x = (i j : ℕ) → i < x.others → x.from i ≤ j → j < x.upto i → x.holds i j ≡ true
 
-pub told_none : (x : Test) (i j : ℕ) → told_of x i j ≡ none → x.holds i j ≡ true
+pub told_none : (x : Test) (i j : ℕ) → told_of x i j ≡ None → x.holds i j ≡ true
 told_none x i j e = by_test (x.holds i j) (λ q. q) (λ q. clash (cc))
 
-pub passed : (x : Test) → test_breach x ≡ none → Passed x
+pub passed : (x : Test) → test_breach x ≡ None → Passed x
 unfolding test_breach row_breach
 passed x e i j h l m =
     let row = first_all (row_breach x) 0 x.others i e (omega arith) (omega arith) in
     told_none x i j (first_all (told_of x i) (x.from i) (x.upto i - x.from i) j row l (omega arith))
 
-none_told : (x : Test) → Passed x → test_breach x ≡ none
+none_told : (x : Test) → Passed x → test_breach x ≡ None
 unfolding test_breach row_breach
 none_told x f =
     first_none (row_breach x) 0 x.others

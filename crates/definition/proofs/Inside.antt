@@ -3,7 +3,7 @@
 use mathlib.Core.Path.{◌≡◌, refl, ap}
 use mathlib.Core.Bool.{Bool, true, not}
 use mathlib.Core.List.{List, [], ◌∷◌}
-use mathlib.Core.Option.{Option, none, some}
+use Rattle.std.specs.Prelude.{Option, None, Some}
 use Prim.Native.Nat.{ℕ, suc, ◌+◌, ◌-◌, ◌*◌, ◌≤◌, ◌<◌, max}
 use native.Mathlib.Nat.{add-mul, mul_assoc, mul_comm, mul-pos, mul-le-mul_right}
 use native.Mathlib.Omega.{arith}
@@ -144,7 +144,7 @@ module _ (t : Tables) (f : Flags) (memory : ℕ) (ok : valid t memory ≡ true) 
   unfolding member_of member_in
   member_of_stands name g s =
       pick_by Stood (both (is_structure g.type) (both (is_empty g.lengths) (eqb g.bit no_bit)))
-      (λ e. scan-all _ (λ o. Stood (member_found t f g o)) some none 0 (members_of t (structure_of t g.type)) tt
+      (λ e. scan-all _ (λ o. Stood (member_found t f g o)) Some None 0 (members_of t (structure_of t g.type)) tt
       (λ j h. visible_stands g _ (member_stands g j s (both_true (is_structure g.type) _ e).0 (omega arith))))
       (λ e. tt)
 
@@ -162,18 +162,18 @@ module _ (t : Tables) (f : Flags) (memory : ℕ) (ok : valid t memory ≡ true) 
 
   first_stands : (p : Row → Bool) (unknown : Status) (rest : List Segment) → Stood (from_tag t f unknown (first p t.tags) rest)
   first_stands p unknown rest =
-      scan-all p (λ o. Stood (from_tag t f unknown o rest)) some none 0 t.tags tt
+      scan-all p (λ o. Stood (from_tag t f unknown o rest)) Some None 0 t.tags tt
       (λ i h. walk_stands (moves rest) (whole_tag t i) (tag_stands i (omega arith)))
 
   instance_stands : (scope : ℕ) (o : Option ℕ) (rest : List Segment) → Stood (by_instance t f scope o rest)
   unfolding id_in
-  instance_stands scope none rest = tt
-  instance_stands scope (some id) rest = pick_all Stood (takes_instances f) (first_stands _ _ rest) tt
+  instance_stands scope None rest = tt
+  instance_stands scope (Some id) rest = pick_all Stood (takes_instances f) (first_stands _ _ rest) tt
 
   named_stands : (scope : ℕ) (o : Option (List ℕ)) (s : Segment) (rest : List Segment) → Stood (by_name t f scope o s rest)
   unfolding tag_in
-  named_stands scope none s rest = instance_stands scope (symbol_instance (object_of (s ∷ rest))) (drop 1 rest)
-  named_stands scope (some name) s rest = first_stands _ _ rest
+  named_stands scope None s rest = instance_stands scope (symbol_instance (object_of (s ∷ rest))) (drop 1 rest)
+  named_stands scope (Some name) s rest = first_stands _ _ rest
 
   scope_stands : (scope : ℕ) (path : List Segment) → Stood (in_scope t f scope path)
   unfolding in_scope
@@ -181,12 +181,12 @@ module _ (t : Tables) (f : Flags) (memory : ℕ) (ok : valid t memory ≡ true) 
   scope_stands scope (s ∷ rest) = named_stands scope (name_of s) s rest
 
   program_stands : (o : Option ℕ) (path : List Segment) → Stood (in_program t f o path)
-  program_stands none path = tt
-  program_stands (some k) path = scope_stands (suc k) path
+  program_stands None path = tt
+  program_stands (Some k) path = scope_stands (suc k) path
 
   scoped_stands : (o : Option (List ℕ)) (s : Segment) (rest : List Segment) → Stood (scoped_by t f o s rest)
-  scoped_stands none s rest = scope_stands 0 (s ∷ rest)
-  scoped_stands (some name) s rest =
+  scoped_stands None s rest = scope_stands 0 (s ∷ rest)
+  scoped_stands (Some name) s rest =
       pick_all Stood (both (is_program_name name) (not (is_empty rest)))
       (program_stands (program_named t (after_program name)) rest) (scope_stands 0 (s ∷ rest))
 

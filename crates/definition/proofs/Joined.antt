@@ -5,7 +5,7 @@ use mathlib.Core.Path.{◌≡◌, refl, sym, ap, ap₂, ◌∙◌, subst}
 use mathlib.Core.Logic.{◌⊎◌, inl, inr}
 use mathlib.Core.Bool.{true, false}
 use mathlib.Core.List.{List, [], ◌∷◌}
-use mathlib.Core.Option.{some}
+use Rattle.std.specs.Prelude.{Some}
 use Prim.Native.Nat.{ℕ, zero, suc, ◌+◌, ◌*◌, ◌≤◌, ◌<◌}
 use native.Mathlib.Nat.{mul-le-mul_right}
 use native.Mathlib.Omega.{arith}
@@ -128,7 +128,7 @@ record Carries (body : List ℕ) (m : Masks) : Type 0 where
   ors_long : length m.ors ≡ u16_at body 0
   ands_long : length m.ands ≡ u16_at body 0
 
-carries : (body : List ℕ) (m : Masks) → masks_in body ≡ some m → Carries body m
+carries : (body : List ℕ) (m : Masks) → masks_in body ≡ Some m → Carries body m
 unfolding masks_in
 carries body m e =
     let size = u16_at body 0 in
@@ -144,7 +144,7 @@ carries body m e =
     (λ t. clash (cc (rw t at e)))
 
 carried : (body : List ℕ) → length body ≡ 2 + 2 * u16_at body 0
-    → masks_in body ≡ some (pair (part body 2 (u16_at body 0)) (part body (2 + u16_at body 0) (u16_at body 0)))
+    → masks_in body ≡ Some (pair (part body 2 (u16_at body 0)) (part body (2 + u16_at body 0) (u16_at body 0)))
 unfolding masks_in
 carried body n = rw (eq-eqb (length body) (2 + 2 * u16_at body 0) n)
 
@@ -161,7 +161,7 @@ module _ (t : Tables) (f : Flags) (memory message : List ℕ) (limit : ℕ) (pat
   off_tag off = rw (is, past_objects t f memory 0x4E (object_of path) path body limit refl refl, off) (otherwise_away 0x4E limit (object_of path))
 
   -- one with masks that its target takes stores
-  stores : (m : Masks) (start : ℕ) → masks_in body ≡ some m → TakesMasks t f path start (length m.ors)
+  stores : (m : Masks) (start : ℕ) → masks_in body ≡ Some m → TakesMasks t f path start (length m.ors)
       → answer t f memory message limit ≡ answered (fail 0x4E success) (put memory start (masked_by (part memory start (length m.ors)) m))
   unfolding masked_stored
   stores m start e k =
@@ -308,7 +308,7 @@ accepted_by_lem t f memory message limit buffer left ok s e =
 
 -- of a path and a body that are known: its target, which is the one that the path has, takes its masks
 module _ (t : Tables) (f : Flags) (memory message : List ℕ) (limit : ℕ) (path : List Segment) (body : List ℕ) (m : Masks) (start : ℕ)
-    (is : request_of message ≡ request 0x4E path body) (masks_are : masks_in body ≡ some m) (targets : Targets t f path start)
+    (is : request_of message ≡ request 0x4E path body) (masks_are : masks_in body ≡ Some m) (targets : Targets t f path start)
     (e : get_or (answer t f memory message limit).reply 2 0 ≡ 0x00) where
   takes_them : TakesMasks t f path start (length m.ors)
   takes_them =
@@ -376,7 +376,7 @@ masks-accepted t f memory message limit buffer left ok s w =
 
 -- ---- rows of them
 
-carried_sized : (body : List ℕ) (m : Masks) → masks_in body ≡ some m → Sized (length m.ors) m
+carried_sized : (body : List ℕ) (m : Masks) → masks_in body ≡ Some m → Sized (length m.ors) m
 carried_sized body m e =
     let c = carries body m e in
     record { ors_long = refl; ands_long = c.ands_long ∙ sym c.ors_long }

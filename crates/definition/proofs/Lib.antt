@@ -9,6 +9,7 @@ pub mod Inside
 pub mod Joined
 pub mod Lengths
 pub mod Listing
+pub mod Numbers
 pub mod OneRead
 pub mod OtherNames
 pub mod Replies

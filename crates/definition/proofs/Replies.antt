@@ -3,7 +3,7 @@
 use mathlib.Core.Path.{◌≡◌, refl}
 use mathlib.Core.Bool.{Bool, true, false, not}
 use mathlib.Core.List.{List, [], ◌∷◌}
-use mathlib.Core.Option.{Option, none, some}
+use Rattle.std.specs.Prelude.{Option, None, Some}
 use Prim.Native.Nat.{ℕ, suc, ◌+◌, ◌-◌, ◌*◌, ◌≤◌, min}
 use native.Mathlib.Omega.{arith}
 use lib.Dec.{ltb, leb, eqb}
@@ -169,8 +169,8 @@ then_well (turned status) next w n = w
 
 member_well : (t : Tables) (f : Flags) (g : Target) (i : Option ℕ) → TurnsWell (member_found t f g i)
 unfolding visible_member is_status some_of
-member_well t f g none = (refl, refl)
-member_well t f g (some i) =
+member_well t f g None = (refl, refl)
+member_well t f g (Some i) =
     pick_all TurnsWell (both (marked (is_local (get_or (members_of t (structure_of t g.type)) i []))) f.aoi_locals_refused) (refl, refl) tt
 
 move_well : (t : Tables) (f : Flags) (m : Move) (g : Target) → TurnsWell (move_to t f m g)
@@ -189,18 +189,18 @@ walk_well t f [] g = tt
 walk_well t f (m ∷ rest) g = then_well (move_to t f m g) (walk t f rest) (move_well t f m g) (walk_well t f rest)
 
 from_well : (t : Tables) (f : Flags) (unknown : Status) (i : Option ℕ) (rest : List Segment) → Refuses unknown → TurnsWell (from_tag t f unknown i rest)
-from_well t f unknown none rest k = k
-from_well t f unknown (some i) rest k = walk_well t f (moves rest) (whole_tag t i)
+from_well t f unknown None rest k = k
+from_well t f unknown (Some i) rest k = walk_well t f (moves rest) (whole_tag t i)
 
 instance_well : (t : Tables) (f : Flags) (scope : ℕ) (id : Option ℕ) (rest : List Segment) → TurnsWell (by_instance t f scope id rest)
 unfolding is_status some_of
-instance_well t f scope none rest = (refl, refl)
-instance_well t f scope (some id) rest = pick_all TurnsWell (takes_instances f) (from_well t f _ (tag_with_id t scope id) rest (refl, refl)) (refl, refl)
+instance_well t f scope None rest = (refl, refl)
+instance_well t f scope (Some id) rest = pick_all TurnsWell (takes_instances f) (from_well t f _ (tag_with_id t scope id) rest (refl, refl)) (refl, refl)
 
 name_well : (t : Tables) (f : Flags) (scope : ℕ) (name : Option (List ℕ)) (s : Segment) (rest : List Segment) → TurnsWell (by_name t f scope name s rest)
 unfolding is_status some_of
-name_well t f scope none s rest = instance_well t f scope (symbol_instance (object_of (s ∷ rest))) (drop 1 rest)
-name_well t f scope (some name) s rest = from_well t f _ (tag_named t scope name) rest (refl, refl)
+name_well t f scope None s rest = instance_well t f scope (symbol_instance (object_of (s ∷ rest))) (drop 1 rest)
+name_well t f scope (Some name) s rest = from_well t f _ (tag_named t scope name) rest (refl, refl)
 
 scope_well : (t : Tables) (f : Flags) (scope : ℕ) (path : List Segment) → TurnsWell (in_scope t f scope path)
 unfolding in_scope is_status some_of
@@ -209,12 +209,12 @@ scope_well t f scope (s ∷ rest) = name_well t f scope (name_of s) s rest
 
 program_well : (t : Tables) (f : Flags) (k : Option ℕ) (rest : List Segment) → TurnsWell (in_program t f k rest)
 unfolding is_status some_of
-program_well t f none rest = (refl, refl)
-program_well t f (some k) rest = scope_well t f (suc k) rest
+program_well t f None rest = (refl, refl)
+program_well t f (Some k) rest = scope_well t f (suc k) rest
 
 scoped_well : (t : Tables) (f : Flags) (name : Option (List ℕ)) (s : Segment) (rest : List Segment) → TurnsWell (scoped_by t f name s rest)
-scoped_well t f none s rest = scope_well t f 0 (s ∷ rest)
-scoped_well t f (some name) s rest =
+scoped_well t f None s rest = scope_well t f 0 (s ∷ rest)
+scoped_well t f (Some name) s rest =
     pick_all TurnsWell (both (is_program_name name) (not (is_empty rest))) (program_well t f (program_named t (after_program name)) rest)
     (scope_well t f 0 (s ∷ rest))
 
@@ -252,18 +252,18 @@ proper_template templates r service body limit =
 
 proper_read_template : (t : Tables) (service : ℕ) (i : Option ℕ) (body : List ℕ) (limit : ℕ) → Proper limit (read_template t service i body limit)
 unfolding is_status some_of
-proper_read_template t service none body limit = proper_fail limit service _ refl
-proper_read_template t service (some i) body limit = proper_template t.templates (structure_at t i) service body limit
+proper_read_template t service None body limit = proper_fail limit service _ refl
+proper_read_template t service (Some i) body limit = proper_template t.templates (structure_at t i) service body limit
 
 headed_list : (service : ℕ) (value : ℕ → Option (List ℕ)) (list : Option (List ℕ)) → Headed (list_reply service value list)
 unfolding is_status some_of
-headed_list service value none = headed_reply service _ _ refl
-headed_list service value (some list) = headed_reply service _ _ refl
+headed_list service value None = headed_reply service _ _ refl
+headed_list service value (Some list) = headed_reply service _ _ refl
 
 headed_structure : (structures : List Row) (service : ℕ) (i : Option ℕ) (body : List ℕ) → Headed (structure_list structures service i body)
 unfolding is_status some_of
-headed_structure structures service none body = headed_reply service _ _ refl
-headed_structure structures service (some i) body = headed_list service _ (counted body)
+headed_structure structures service None body = headed_reply service _ _ refl
+headed_structure structures service (Some i) body = headed_list service _ (counted body)
 
 -- item 20 caps what it is put around
 proper_capped : (service limit : ℕ) (r : List ℕ) → Headed r → Proper limit (capped service limit r)
@@ -289,13 +289,13 @@ proper_page service due limit =
 
 proper_page_of : (t : Tables) (service : ℕ) (s : Start) (list : Option (List ℕ)) (limit : ℕ) → Proper limit (page_of t service s list limit)
 unfolding is_status some_of
-proper_page_of t service s none limit = proper_fail limit service _ refl
-proper_page_of t service s (some list) limit = pick_all (Proper limit) (every is_listed list) (proper_page service _ limit) (proper_fail limit service _ refl)
+proper_page_of t service s None limit = proper_fail limit service _ refl
+proper_page_of t service s (Some list) limit = pick_all (Proper limit) (every is_listed list) (proper_page service _ limit) (proper_fail limit service _ refl)
 
 proper_page_from : (t : Tables) (service : ℕ) (s : Option Start) (body : List ℕ) (limit : ℕ) → Proper limit (page_from t service s body limit)
 unfolding is_status some_of
-proper_page_from t service none body limit = proper_fail limit service _ refl
-proper_page_from t service (some s) body limit = proper_page_of t service s (counted body) limit
+proper_page_from t service None body limit = proper_fail limit service _ refl
+proper_page_from t service (Some s) body limit = proper_page_of t service s (counted body) limit
 
 -- ---- the dispatch
 
@@ -362,8 +362,8 @@ proper_close limit rs =
 
 proper_parts : (d : Dispatcher) (memory : List ℕ) (parts : Option (List (List ℕ))) (limit : ℕ) → Proper limit (answer_parts d memory parts limit).reply
 unfolding is_status some_of
-proper_parts d memory none limit = proper_fail limit 0x0A _ refl
-proper_parts d memory (some parts) limit = proper_close limit _
+proper_parts d memory None limit = proper_fail limit 0x0A _ refl
+proper_parts d memory (Some parts) limit = proper_close limit _
 
 proper_request : (t : Tables) (f : Flags) (memory message : List ℕ) (q : Request) (limit : ℕ) → Proper limit (any_request t f memory message q limit).reply
 unfolding envelope is_status some_of

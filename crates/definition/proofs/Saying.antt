@@ -5,7 +5,7 @@ use mathlib.Core.Path.{◌≡◌, refl, ◌∙◌, ap, subst}
 use mathlib.Core.Logic.{◌⊎◌, inl, inr}
 use mathlib.Core.Bool.{Bool, true, false, not}
 use mathlib.Core.List.{List}
-use mathlib.Core.Option.{Option, none, some}
+use Rattle.std.specs.Prelude.{Option, None, Some}
 use Prim.Native.Nat.{ℕ, ◌-◌, ◌≤◌, ◌<◌, max}
 use native.Mathlib.Nat.{mul-pos}
 use native.Mathlib.Omega.{arith}
@@ -50,14 +50,14 @@ record Tells (x : Test) (b : Breach) : Type 0 where
   broken : x.holds i j ≡ false
   same : tell x i j ≡ b
 
-some-told : (h : Bool) (a b : Breach) → pick h none (some a) ≡ some b → (h ≡ false) × (a ≡ b)
+some-told : (h : Bool) (a b : Breach) → pick h None (Some a) ≡ Some b → (h ≡ false) × (a ≡ b)
 some-told true a b e = clash (cc)
 some-told false a b e = (refl, (cc))
 
-holds : (x : Test) → test_breach x ≡ none → Holds x
+holds : (x : Test) → test_breach x ≡ None → Holds x
 holds x e i j r = all_pass x e i j r.against r.low r.high
 
-tells : (x : Test) (b : Breach) → test_breach x ≡ some b → Tells x b
+tells : (x : Test) (b : Breach) → test_breach x ≡ Some b → Tells x b
 unfolding test_breach row_breach
 tells x b e =
     let r = first_some (row_breach x) 0 x.others b e in
@@ -96,8 +96,8 @@ none_or_long name e = none_or_over (length name) 40 e
 -- of an other symbol's name, by what stands after its prefix
 none_or_long_after : (name : List ℕ) (after : Option (List ℕ)) → length_by name after ≡ false → (length name ≡ 0) ⊎ (40 < length (behind name after))
 unfolding length_by
-none_or_long_after name (some rest) e = inr (leb-false (length rest) 40 e)
-none_or_long_after name none e = none_or_over (length name) 40 e
+none_or_long_after name (Some rest) e = inr (leb-false (length rest) 40 e)
+none_or_long_after name None e = none_or_over (length name) 40 e
 
 none_or_long_other : (name : List ℕ) → other_length name ≡ false → (length name ≡ 0) ⊎ (40 < length (behind name (after_prefix name)))
 unfolding other_length
@@ -142,7 +142,7 @@ is_rule k x = eqb x.rule k
 abbrev Claim : (Breach → Type 0) → Test → Type 0
 Claim P x = (i j : ℕ) → Reached x i j → Before x i j → x.holds i j ≡ false → P (tell x i j)
 
-module _ (t : Tables) (memory : ℕ) (b : Breach) (e : breach t memory ≡ some b) where
+module _ (t : Tables) (memory : ℕ) (b : Breach) (e : breach t memory ≡ Some b) where
   first : First (λ n. test_breach (test_at t memory n)) 0 (length (tests t memory)) b
   unfolding breach
   first = first_some (λ n. test_breach (test_at t memory n)) 0 (length (tests t memory)) b e

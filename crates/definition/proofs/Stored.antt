@@ -3,7 +3,7 @@
 use mathlib.Core.Path.{◌≡◌, refl, ◌∙◌}
 use mathlib.Core.Bool.{true}
 use mathlib.Core.List.{List, [], ◌∷◌}
-use mathlib.Core.Option.{Option, none, some}
+use Rattle.std.specs.Prelude.{Option, None, Some}
 use Prim.Native.Nat.{ℕ, ◌+◌, ◌*◌, ◌≤◌}
 use native.Mathlib.Nat.{mul-pos, mul-le-mul_right}
 use native.Mathlib.Omega.{arith}
@@ -153,8 +153,8 @@ module _ (dispatch : Dispatcher) (n : ℕ)
       run_keeps limit rest _ _ (pick_all (Keeps n) (eqb (get_or p 0 0) envelope_service) e (keeps memory p _ e))
 
   parts_keep : (memory : List ℕ) (parts : Option (List (List ℕ))) (limit : ℕ) → length memory ≡ n → Keeps n (answer_parts dispatch memory parts limit)
-  parts_keep memory none limit e = e
-  parts_keep memory (some parts) limit e = close_keeps n limit _ (run_keeps limit parts (6 + 2 * length parts) memory e)
+  parts_keep memory None limit e = e
+  parts_keep memory (Some parts) limit e = close_keeps n limit _ (run_keeps limit parts (6 + 2 * length parts) memory e)
 
   pub envelope_keeps : (f : Flags) (memory body : List ℕ) (limit : ℕ) → length memory ≡ n → length (envelope f dispatch memory body limit).memory ≡ n
   unfolding envelope

@@ -5,7 +5,7 @@ use mathlib.Core.Path.{◌≡◌, refl, sym, ap, ◌∙◌, subst}
 use mathlib.Core.Logic.{◌≢◌}
 use mathlib.Core.Bool.{Bool, true, false}
 use mathlib.Core.List.{List, [], ◌∷◌}
-use mathlib.Core.Option.{Option, none, some}
+use Rattle.std.specs.Prelude.{Option, None, Some}
 use Prim.Native.Nat.{ℕ, zero, suc, ◌+◌, ◌-◌, ◌*◌, ◌≤◌, ◌<◌}
 use lib.Bits.{bit_and, bit_or}
 use native.Mathlib.Omega.{arith}
@@ -110,8 +110,8 @@ Parsed message malformed = Unit {0}
 Parsed message (request service path body) = service ≡ get_or message 0 0
 
 with_path_lem : (message : List ℕ) (o : Option (List Segment)) (body : List ℕ) → Parsed message (with_path (get_or message 0 0) o body)
-with_path_lem message none body = tt
-with_path_lem message (some p) body = refl
+with_path_lem message None body = tt
+with_path_lem message (Some p) body = refl
 
 pub parsed : (message : List ℕ) → Parsed message (request_of message)
 unfolding request_of

@@ -18,7 +18,7 @@
 -- A declaration sees only what stands above it, so the items are tried from the end of this file upwards: `any_request`, `by_object`, `by_service`,
 -- each passing on what is none of its own.
 use Rattle.std.specs.Prelude.{Bool, false, not, List, ℕ, leb, eqb, length, get_or}
-use Rattle.std.proofs.Math.Option.{Option, none, some}
+use Rattle.std.specs.Prelude.{Option, None, Some}
 use Rattle.laws.specs.Pick.{pick, ◌&◌, either}
 use Rattle.definition.specs.Reply.{Answer, answered, fail, path_error, path_unknown, not_supported, too_large}
 use Rattle.definition.specs.Segment.{Segment}
@@ -80,8 +80,8 @@ by_service t f memory service path body limit =
 
 -- items 10 and 12: 0x05 for an unknown template ID
 abbrev pub read_template : Tables → (service : ℕ) → Option ℕ → (body : List ℕ) (limit : ℕ) → List ℕ
-read_template t service none body limit = fail service path_unknown
-read_template t service (some i) body limit = template_reply t.templates (structure_at t i) service body limit
+read_template t service None body limit = fail service path_unknown
+read_template t service (Some i) body limit = template_reply t.templates (structure_at t i) service body limit
 
 abbrev pub by_object : Tables → Flags → (memory : List ℕ) (service : ℕ) → Object → (path : List Segment) (body : List ℕ) (limit : ℕ) → Answer
 by_object t f memory service no_object path body limit = by_service t f memory service path body limit

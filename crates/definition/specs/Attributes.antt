@@ -2,7 +2,7 @@
 -- CIP Volume 1, Appendix A (Get_Attribute_List), defines the lists; 1756-PM020 the attributes of the Template object (class 0x6C);
 -- document 01 alone attribute 0x0D of class 0x6B, and status 0 with unknown numbers.
 use Rattle.std.specs.Prelude.{List, [], ◌∷◌, ◌++◌, ℕ, ◌+◌, ◌/◌, eqb, length, get_or}
-use Rattle.std.proofs.Math.Option.{Option, none, some}
+use Rattle.std.specs.Prelude.{Option, None, Some}
 use Rattle.laws.specs.Pick.{pick, either, is_some}
 use Rattle.definition.specs.Bytes.{le16, le32, counted}
 use Rattle.definition.specs.Reply.{reply, fail, success, path_unknown, too_short}
@@ -13,8 +13,8 @@ use Rattle.definition.specs.Lookup.{program_of, tag_with_id, other_with_id, temp
 
 -- [CIP]
 abbrev pub attribute_entry : (number : ℕ) → Option (List ℕ) → List ℕ
-attribute_entry number none = le16 number ++ le16 0x0014
-attribute_entry number (some value) = le16 number ++ le16 0x0000 ++ value
+attribute_entry number None = le16 number ++ le16 0x0014
+attribute_entry number (Some value) = le16 number ++ le16 0x0000 ++ value
 
 -- [CIP]
 unfoldable pub attribute_entries : (value : ℕ → Option (List ℕ)) → List ℕ → List ℕ
@@ -23,23 +23,23 @@ attribute_entries value (a ∷ rest) = attribute_entry a (value a) ++ attribute_
 
 -- [CIP]
 abbrev pub list_reply : (service : ℕ) → (value : ℕ → Option (List ℕ)) → Option (List ℕ) → List ℕ
-list_reply service value none = fail service too_short
-list_reply service value (some list) = reply service success (le16 (length list) ++ attribute_entries value list)
+list_reply service value None = fail service too_short
+list_reply service value (Some list) = reply service success (le16 (length list) ++ attribute_entries value list)
 
 -- ---- class 0x6C: 1 handle, 2 member count, 4 (template length + 23) ÷ 4 rounded up, 5 size
 
 -- [PM020]
 unfoldable pub structure_attribute : Row → (number : ℕ) → Option (List ℕ)
 structure_attribute r a =
-    pick (eqb a 1) (some (le16 (handle r)))
-    (pick (eqb a 2) (some (le16 (member_count r)))
-    (pick (eqb a 4) (some (le32 ((template_length r + 23 + 3) / 4)))
-    (pick (eqb a 5) (some (le32 (structure_size r))) none)))
+    pick (eqb a 1) (Some (le16 (handle r)))
+    (pick (eqb a 2) (Some (le16 (member_count r)))
+    (pick (eqb a 4) (Some (le32 ((template_length r + 23 + 3) / 4)))
+    (pick (eqb a 5) (Some (le32 (structure_size r))) None)))
 
 -- of the structure that a template ID means; 0x05 for an unknown one [01]
 abbrev pub structure_list : (structures : List Row) (service : ℕ) → Option ℕ → (body : List ℕ) → List ℕ
-structure_list structures service none body = fail service path_unknown
-structure_list structures service (some i) body = list_reply service (structure_attribute (get_or structures i [])) (counted body)
+structure_list structures service None body = fail service path_unknown
+structure_list structures service (Some i) body = list_reply service (structure_attribute (get_or structures i [])) (counted body)
 
 -- [01]
 unfoldable pub structure_attributes : (structures : List Row) (service id : ℕ) (body : List ℕ) → List ℕ
@@ -49,13 +49,13 @@ structure_attributes structures service id body = structure_list structures serv
 
 -- [01]
 abbrev pub program_reference : Option ℕ → (number : ℕ) → Option (List ℕ)
-program_reference none a = none
-program_reference (some k) a = pick (eqb a 0x0D) (some (0x03 ∷ 0x20 ∷ 0x68 ∷ 0x25 ∷ 0x00 ∷ le16 (0x5AD0 + k))) none
+program_reference None a = None
+program_reference (Some k) a = pick (eqb a 0x0D) (Some (0x03 ∷ 0x20 ∷ 0x68 ∷ 0x25 ∷ 0x00 ∷ le16 (0x5AD0 + k))) None
 
 -- the program that the other symbol of this index is named as [01]
 abbrev pub named_program : Tables → Option ℕ → Option ℕ
-named_program t none = none
-named_program t (some i) = program_of t (other_name t.names (get_or t.others i []))
+named_program t None = None
+named_program t (Some i) = program_of t (other_name t.names (get_or t.others i []))
 
 -- 0x05 for an ID not in the controller scope [01]
 unfoldable pub symbol_attributes : Tables → (service id : ℕ) (body : List ℕ) → List ℕ

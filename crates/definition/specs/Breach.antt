@@ -2,7 +2,7 @@
 -- counts,
 -- each table's rows, then rows that clash with each other. A rule's number is 100 times the number of its T plus 1, 2, ..; the encoding's are 1 to 11.
 use Rattle.std.specs.Prelude.{Bool, true, List, [], ◌∷◌, ◌++◌, map, ℕ, ◌+◌, ◌*◌, ◌-◌, min, max, ltb, leb, eqb, length, get_or}
-use Rattle.std.proofs.Math.Option.{Option, none, some}
+use Rattle.std.specs.Prelude.{Option, None, Some}
 use Rattle.laws.specs.Pick.{pick, both, either}
 use Rattle.laws.specs.Tests.{every}
 use Rattle.laws.specs.First.{first_of}
@@ -255,7 +255,7 @@ abbrev pub tell : Test → (i j : ℕ) → Breach
 tell x i j = record { rule = x.rule; table = x.table; row = j; other_table = x.other_table; other = i }
 
 abbrev pub told_of : Test → (i j : ℕ) → Option Breach
-told_of x i j = pick (x.holds i j) none (some (tell x i j))
+told_of x i j = pick (x.holds i j) None (Some (tell x i j))
 
 -- row i of the other table, against its rows
 unfoldable pub row_breach : Test → ℕ → Option Breach

@@ -3,7 +3,7 @@
 -- In every file the comment on a function ends with what defines it: [CIP] CIP Volume 1, [PM020] 1756-PM020, [01] document 01 alone. Where the head of
 -- a file says that all of it is document 01's, its functions carry no mark.
 use Rattle.std.specs.Prelude.{List, [], ◌∷◌, ℕ, zero, suc, ◌+◌, ◌*◌, ◌/◌, ◌%◌, ltb, length, get_or, take, drop}
-use Rattle.std.proofs.Math.Option.{Option, none, some}
+use Rattle.std.specs.Prelude.{Option, None, Some}
 use Rattle.laws.specs.Pick.{pick}
 
 -- the numbers of 16 and of 32 bits that stand at a position; a byte past the end counts as 0, which never matters: the length is tested wherever one is read
@@ -34,4 +34,4 @@ numbers (suc n) s = u16_at s 0 ∷ numbers n (drop 2 s)
 
 -- a count of 16 bits and as many numbers of 16 bits; none if one of them is missing, and what follows is ignored [01]
 unfoldable pub counted : List ℕ → Option (List ℕ)
-counted s = let n = u16_at s 0 in pick (ltb (length s) (2 + 2 * n)) none (some (numbers n (drop 2 s)))
+counted s = let n = u16_at s 0 in pick (ltb (length s) (2 + 2 * n)) None (Some (numbers n (drop 2 s)))

@@ -3,7 +3,7 @@
 -- the parts' limits and 0x11.
 -- `answer` is the dispatcher that a part goes back to. A part that starts with 0x0A is refused here, so a dispatcher without envelopes is enough.
 use Rattle.std.specs.Prelude.{Bool, List, [], ◌∷◌, ◌++◌, ℕ, ◌+◌, ◌-◌, ◌*◌, leb, eqb, length, get_or}
-use Rattle.std.proofs.Math.Option.{Option, none, some}
+use Rattle.std.specs.Prelude.{Option, None, Some}
 use Rattle.laws.specs.Pick.{pick, both}
 use Rattle.laws.specs.Tests.{every}
 use Rattle.definition.specs.Bytes.{le16, part, counted}
@@ -29,9 +29,9 @@ parts_from body (o ∷ (p ∷ rest)) = part body o (p - o) ∷ parts_from body (
 
 -- [01]
 abbrev pub parts_by : (body : List ℕ) → Option (List ℕ) → Option (List (List ℕ))
-parts_by body none = none
-parts_by body (some offsets) =
-    pick (ascending (2 + 2 * length offsets) offsets (length body)) (some (parts_from body offsets)) none
+parts_by body None = None
+parts_by body (Some offsets) =
+    pick (ascending (2 + 2 * length offsets) offsets (length body)) (Some (parts_from body offsets)) None
 
 -- none if count or offsets are missing, fall back, start inside the offsets or pass the end [01]
 unfoldable pub parts_of : (body : List ℕ) → Option (List (List ℕ))
@@ -89,8 +89,8 @@ close_envelope limit rs =
 
 -- [01]
 abbrev pub answer_parts : Dispatcher → (memory : List ℕ) → Option (List (List ℕ)) → (limit : ℕ) → Answer
-answer_parts answer memory none limit = answered (fail envelope_service too_short) memory
-answer_parts answer memory (some parts) limit = close_envelope limit (run_parts answer limit (6 + 2 * length parts) parts memory)
+answer_parts answer memory None limit = answered (fail envelope_service too_short) memory
+answer_parts answer memory (Some parts) limit = close_envelope limit (run_parts answer limit (6 + 2 * length parts) parts memory)
 
 -- [01]
 unfoldable pub envelope : Flags → Dispatcher → (memory body : List ℕ) (limit : ℕ) → Answer

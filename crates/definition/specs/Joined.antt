@@ -1,7 +1,7 @@
 -- Document 02, P13: the masks of masked writes in a row, joined into those of one.
 -- 1756-PM020 (Read Modify Write Tag) defines the fields; document 02 alone how masks are joined [P13].
 use Rattle.std.specs.Prelude.{Bool, List, [], ◌∷◌, ℕ, ◌+◌, ◌*◌, ltb, eqb, length, replicate}
-use Rattle.std.proofs.Math.Option.{Option, none, some}
+use Rattle.std.specs.Prelude.{Option, None, Some}
 use Rattle.std.specs.Int.Bits.{bit_or}
 use Rattle.laws.specs.Pick.{pick, ◌&◌}
 use Rattle.definition.specs.Bytes.{u16_at, part}
@@ -60,4 +60,4 @@ is_byte b = ltb b 256
 unfoldable pub masks_in : (body : List ℕ) → Option Masks
 masks_in body =
     let size = u16_at body 0 in
-    pick (eqb (length body) (2 + 2 * size)) (some (pair (part body 2 size) (part body (2 + size) size))) none
+    pick (eqb (length body) (2 + 2 * size)) (Some (pair (part body 2 size) (part body (2 + size) size))) None

@@ -1,7 +1,7 @@
 -- Document 01, "Type, member, tag" and "Target": the lookups, each the first in table order.
 -- All of it is document 01's alone.
 use Rattle.std.specs.Prelude.{Bool, not, List, [], ℕ, eqb, get_or}
-use Rattle.std.proofs.Math.Option.{Option, none, some}
+use Rattle.std.specs.Prelude.{Option, None, Some}
 use Rattle.laws.specs.Pick.{pick, ◌&◌}
 use Rattle.laws.specs.Scan.{scan}
 use Rattle.laws.specs.Tests.{some_of}
@@ -10,7 +10,7 @@ use Rattle.definition.specs.Tables.{Tables, Row, template_id, members_of, member
 
 -- the index of the first row that passes
 abbrev pub first : (Row → Bool) → List Row → Option ℕ
-first p rows = scan p some none 0 rows
+first p rows = scan p Some None 0 rows
 
 -- a mark is 0 or 1
 abbrev pub marked : ℕ → Bool
@@ -24,7 +24,7 @@ program_named t name = program_in t.programs t.names name
 
 -- the program that a name with the prefix means
 unfoldable pub program_of : Tables → (name : List ℕ) → Option ℕ
-program_of t name = pick (is_program_name name) (program_named t (after_program name)) none
+program_of t name = pick (is_program_name name) (program_named t (after_program name)) None
 
 unfoldable pub tag_in : (tags : List Row) (tag_names : List ℕ) (scope : ℕ) (name : List ℕ) → Option ℕ
 tag_in tags tag_names scope name = first (λ r. eqb (tag_scope r) scope & same_name (tag_name tag_names r) name) tags

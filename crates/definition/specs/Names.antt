@@ -2,7 +2,7 @@
 -- 1756-PM020 defines the prefix `Program:` and that names ignore case; document 01 alone the test.
 -- Document 02, P2: the three prefixes of other symbols.
 use Rattle.std.specs.Prelude.{Bool, List, [], ◌∷◌, ℕ, ◌+◌, ltb, eqb, length, take, drop}
-use Rattle.std.proofs.Math.Option.{Option, none, some}
+use Rattle.std.specs.Prelude.{Option, None, Some}
 use Rattle.laws.specs.Pick.{pick, both}
 use Rattle.laws.specs.Zip.{agree}
 
@@ -44,6 +44,6 @@ starts_with prefix name = same_name (take (length prefix) name) prefix
 -- what follows `program:`, `routine:` or `task:`, or none without such a prefix [P2]
 unfoldable pub after_prefix : List ℕ → Option (List ℕ)
 after_prefix name =
-    pick (starts_with program_prefix name) (some (drop 8 name))
-    (pick (starts_with routine_prefix name) (some (drop 8 name))
-    (pick (starts_with task_prefix name) (some (drop 5 name)) none))
+    pick (starts_with program_prefix name) (Some (drop 8 name))
+    (pick (starts_with routine_prefix name) (Some (drop 8 name))
+    (pick (starts_with task_prefix name) (Some (drop 5 name)) None))

@@ -1,7 +1,7 @@
 -- Theorems about the definition, each a named statement; proofs/Theorems, Granted, Inside, Stored, OtherNames, OneRead and Joined prove them.
 -- Points 1 to 3 are those of document 00: the first part is point 1, and what points 2 and 3 lean on follows; then what document 02 adds.
 use Rattle.std.specs.Prelude.{◌≡◌, ◌≢◌, ◌↔◌, ◌⊎◌, Bool, true, false, List, [], ◌∷◌, ℕ, ◌+◌, ◌*◌, ◌≤◌, ◌<◌, ltb, eqb, length, get_or, drop}
-use Rattle.std.proofs.Math.Option.{some}
+use Rattle.std.specs.Prelude.{Some}
 use Rattle.std.specs.Int.Bits.{bit_or, bit_and}
 use Rattle.laws.specs.Pick.{pick, ◌&◌}
 use Rattle.laws.specs.Put.{put}
@@ -201,7 +201,7 @@ JoinNoChange =
 pub record Masking (path : List Segment) (m : Masks) (message : List ℕ) : Type 0 where
   pub body : List ℕ
   pub is : request_of message ≡ request 0x4E path body
-  pub masks_are : masks_in body ≡ some m
+  pub masks_are : masks_in body ≡ Some m
 
 -- a path whose target, which a write may change, starts at this byte of tag memory
 pub record Targets (t : Tables) (f : Flags) (path : List Segment) (start : ℕ) : Type 0 where

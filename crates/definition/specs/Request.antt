@@ -2,7 +2,7 @@
 -- segments; program names and the tag path test.
 -- CIP Volume 1, section 2-4 (message router request), defines the message; 1756-PM020 the program prefix; document 01 alone the tag path test.
 use Rattle.std.specs.Prelude.{Bool, true, false, not, List, [], ◌∷◌, ℕ, ◌+◌, ◌*◌, ltb, eqb, length, get_or, drop}
-use Rattle.std.proofs.Math.Option.{Option, none, some}
+use Rattle.std.specs.Prelude.{Option, None, Some}
 use Rattle.laws.specs.Pick.{pick, both, is_empty, is_some}
 use Rattle.definition.specs.Bytes.{part}
 use Rattle.definition.specs.Names.{is_program_name}
@@ -15,8 +15,8 @@ pub data Request : Type 0 where
 
 -- [CIP]
 abbrev pub with_path : ℕ → Option (List Segment) → List ℕ → Request
-with_path service none body = malformed
-with_path service (some path) body = request service path body
+with_path service None body = malformed
+with_path service (Some path) body = request service path body
 
 -- [CIP]
 unfoldable pub request_of : List ℕ → Request
@@ -32,9 +32,9 @@ pub data Object : Type 0 where
 
 -- [CIP]
 abbrev pub object_by : Option ℕ → Option ℕ → Object
-object_by none i = no_object
-object_by (some c) none = no_object
-object_by (some c) (some i) = object c i
+object_by None i = no_object
+object_by (Some c) None = no_object
+object_by (Some c) (Some i) = object c i
 
 -- [CIP]
 abbrev pub object_of : List Segment → Object
@@ -44,15 +44,15 @@ object_of (s ∷ (u ∷ rest)) = object_by (class_of s) (instance_of u)
 
 -- class 0x6B and an instance [PM020]
 abbrev pub symbol_instance : Object → Option ℕ
-symbol_instance no_object = none
-symbol_instance (object c i) = pick (eqb c 0x6B) (some i) none
+symbol_instance no_object = None
+symbol_instance (object c i) = pick (eqb c 0x6B) (Some i) None
 
 -- ---- a tag path: a symbol first, or class 0x6B and an instance; if a program name with something after it comes first, the same test is put to the rest
 
 -- [01]
 abbrev pub starts_tag : Option (List ℕ) → (rest : List Segment) (by_instance again : Bool) → Bool
-starts_tag none rest by_instance again = by_instance
-starts_tag (some name) rest by_instance again = pick (both (is_program_name name) (not (is_empty rest))) again true
+starts_tag None rest by_instance again = by_instance
+starts_tag (Some name) rest by_instance again = pick (both (is_program_name name) (not (is_empty rest))) again true
 
 -- [01]
 unfoldable pub is_tag_path : List Segment → Bool

@@ -1,7 +1,7 @@
 -- Document 01, "Target": what a tag path means, or the status that turns it away, in order.
 -- 1756-PM020 defines symbolic and instance addressing, members, elements in row-major order; document 01 alone the statuses and their order.
 use Rattle.std.specs.Prelude.{Bool, true, not, List, [], ◌∷◌, ℕ, suc, ◌+◌, ◌-◌, ◌*◌, max, ltb, eqb, length, get_or, drop}
-use Rattle.std.proofs.Math.Option.{Option, none, some}
+use Rattle.std.specs.Prelude.{Option, None, Some}
 use Rattle.laws.specs.Pick.{pick, both, is_empty}
 use Rattle.definition.specs.Reply.{Status, path_error, path_unknown}
 use Rattle.definition.specs.Segment.{Segment, element_of, name_of}
@@ -62,9 +62,9 @@ join_run e (stray ∷ rest) = indexes (e ∷ []) ∷ (stray ∷ rest)
 
 -- [PM020]
 abbrev pub add_move : (element : Option ℕ) (name : Option (List ℕ)) → List Move → List Move
-add_move (some e) name rest = join_run e rest
-add_move none (some name) rest = member name ∷ rest
-add_move none none rest = stray ∷ rest
+add_move (Some e) name rest = join_run e rest
+add_move None (Some name) rest = member name ∷ rest
+add_move None None rest = stray ∷ rest
 
 -- [PM020]
 unfoldable pub moves : List Segment → List Move
@@ -124,8 +124,8 @@ visible_member f g r = pick (both (marked (is_local r)) f.aoi_locals_refused) (t
 
 -- [01]
 abbrev pub member_found : Tables → Flags → Target → Option ℕ → Resolved
-member_found t f g none = turned path_error
-member_found t f g (some i) = visible_member f g (get_or (members_of t (structure_of t g.type)) i [])
+member_found t f g None = turned path_error
+member_found t f g (Some i) = visible_member f g (get_or (members_of t (structure_of t g.type)) i [])
 
 -- a member needs a structure, no open array and no bit before it [01]
 unfoldable pub member_of : Tables → Flags → List ℕ → Target → Resolved
@@ -153,18 +153,18 @@ walk t f (m ∷ rest) g = and_then (move_to t f m g) (walk t f rest)
 
 -- [01]
 abbrev pub from_tag : Tables → Flags → Status → Option ℕ → List Segment → Resolved
-from_tag t f unknown none rest = turned unknown
-from_tag t f unknown (some i) rest = walk t f (moves rest) (whole_tag t i)
+from_tag t f unknown None rest = turned unknown
+from_tag t f unknown (Some i) rest = walk t f (moves rest) (whole_tag t i)
 
 -- by instance: 0x05 with the flag off, or unknown; a path that is neither gets 0x04 [01]
 abbrev pub by_instance : Tables → Flags → (scope : ℕ) → Option ℕ → List Segment → Resolved
-by_instance t f scope none rest = turned path_error
-by_instance t f scope (some id) rest = pick (takes_instances f) (from_tag t f path_unknown (tag_with_id t scope id) rest) (turned path_unknown)
+by_instance t f scope None rest = turned path_error
+by_instance t f scope (Some id) rest = pick (takes_instances f) (from_tag t f path_unknown (tag_with_id t scope id) rest) (turned path_unknown)
 
 -- [01]
 abbrev pub by_name : Tables → Flags → (scope : ℕ) → Option (List ℕ) → (s : Segment) (rest : List Segment) → Resolved
-by_name t f scope none s rest = by_instance t f scope (symbol_instance (object_of (s ∷ rest))) (drop 1 rest)
-by_name t f scope (some name) s rest = from_tag t f path_error (tag_named t scope name) rest
+by_name t f scope None s rest = by_instance t f scope (symbol_instance (object_of (s ∷ rest))) (drop 1 rest)
+by_name t f scope (Some name) s rest = from_tag t f path_error (tag_named t scope name) rest
 
 -- [01]
 unfoldable pub in_scope : Tables → Flags → (scope : ℕ) → List Segment → Resolved
@@ -173,13 +173,13 @@ in_scope t f scope (s ∷ rest) = by_name t f scope (name_of s) s rest
 
 -- [01]
 abbrev pub in_program : Tables → Flags → Option ℕ → List Segment → Resolved
-in_program t f none rest = turned path_error
-in_program t f (some k) rest = in_scope t f (suc k) rest
+in_program t f None rest = turned path_error
+in_program t f (Some k) rest = in_scope t f (suc k) rest
 
 -- one program name is taken off, if something follows it [01]
 abbrev pub scoped_by : Tables → Flags → Option (List ℕ) → (s : Segment) (rest : List Segment) → Resolved
-scoped_by t f none s rest = in_scope t f 0 (s ∷ rest)
-scoped_by t f (some name) s rest =
+scoped_by t f None s rest = in_scope t f 0 (s ∷ rest)
+scoped_by t f (Some name) s rest =
     pick (both (is_program_name name) (not (is_empty rest))) (in_program t f (program_named t (after_program name)) rest) (in_scope t f 0 (s ∷ rest))
 
 -- [01]

@@ -3,7 +3,7 @@
 -- them are taken, and that a pad may hold anything, is document 01's. The steps stand in the volume's order, as document 02 asks: the
 -- segment type, then the format, then the value with its pad; ports are excepted.
 use Rattle.std.specs.Prelude.{List, map, ℕ, ◌+◌, ◌%◌, ltb, leb, eqb, length, get_or}
-use Rattle.std.proofs.Math.Option.{Option, none, some}
+use Rattle.std.specs.Prelude.{Option, None, Some}
 use Rattle.std.specs.Int.Bits.{bit_and}
 use Rattle.laws.specs.Pick.{pick}
 use Rattle.laws.specs.Items.{items}
@@ -107,8 +107,8 @@ segment_of cut = port
 
 -- [01]
 abbrev pub only_segments : Option (List Step) → Option (List Segment)
-only_segments none = none
-only_segments (some steps) = some (map segment_of steps)
+only_segments None = None
+only_segments (Some steps) = Some (map segment_of steps)
 
 -- from a position on; none where one is invalid or cut short; a path has no more segments than bytes [CIP]
 unfoldable pub segments_from : (path : List ℕ) (at : ℕ) → Option (List Segment)
@@ -122,36 +122,36 @@ segments path = segments_from path 0
 
 -- [01]
 abbrev pub class_of : Segment → Option ℕ
-class_of port = none
-class_of (class c) = some c
-class_of (instance i) = none
-class_of (element e) = none
-class_of (attribute a) = none
-class_of (symbol s) = none
+class_of port = None
+class_of (class c) = Some c
+class_of (instance i) = None
+class_of (element e) = None
+class_of (attribute a) = None
+class_of (symbol s) = None
 
 -- [01]
 abbrev pub instance_of : Segment → Option ℕ
-instance_of port = none
-instance_of (class c) = none
-instance_of (instance i) = some i
-instance_of (element e) = none
-instance_of (attribute a) = none
-instance_of (symbol s) = none
+instance_of port = None
+instance_of (class c) = None
+instance_of (instance i) = Some i
+instance_of (element e) = None
+instance_of (attribute a) = None
+instance_of (symbol s) = None
 
 -- [01]
 abbrev pub element_of : Segment → Option ℕ
-element_of port = none
-element_of (class c) = none
-element_of (instance i) = none
-element_of (element e) = some e
-element_of (attribute a) = none
-element_of (symbol s) = none
+element_of port = None
+element_of (class c) = None
+element_of (instance i) = None
+element_of (element e) = Some e
+element_of (attribute a) = None
+element_of (symbol s) = None
 
 -- [01]
 abbrev pub name_of : Segment → Option (List ℕ)
-name_of port = none
-name_of (class c) = none
-name_of (instance i) = none
-name_of (element e) = none
-name_of (attribute a) = none
-name_of (symbol s) = some s
+name_of port = None
+name_of (class c) = None
+name_of (instance i) = None
+name_of (element e) = None
+name_of (attribute a) = None
+name_of (symbol s) = Some s

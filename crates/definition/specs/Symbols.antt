@@ -1,7 +1,7 @@
 -- Document 01, "Symbol page": the symbols of a scope, ascending by ID, with every attribute; and item 13, the request (0x55).
 -- 1756-PM020 (Symbol object) defines attributes 1, 2, 7, 8 and 10; document 01 alone 3, 5 and 6, the rest of item 13 and the order of its refusals.
 use Rattle.std.specs.Prelude.{Bool, List, [], ◌∷◌, ◌++◌, map, ℕ, suc, ◌+◌, ◌*◌, ◌%◌, eqb, length, get_or}
-use Rattle.std.proofs.Math.Option.{Option, none, some}
+use Rattle.std.specs.Prelude.{Option, None, Some}
 use Rattle.laws.specs.Pick.{pick, either}
 use Rattle.laws.specs.Tests.{every}
 use Rattle.laws.specs.Sorted.{sort, from}
@@ -119,37 +119,37 @@ pub record Start : Type 0 where
 
 -- [01]
 abbrev pub start_in : (scope : ℕ) → Option ℕ → Option Start
-start_in scope none = none
-start_in scope (some id) = some (record { scope = scope; id = id })
+start_in scope None = None
+start_in scope (Some id) = Some (record { scope = scope; id = id })
 
 -- [01]
 abbrev pub start_of : Option ℕ → Option ℕ → Option Start
-start_of none id = none
-start_of (some k) id = start_in (suc k) id
+start_of None id = None
+start_of (Some k) id = start_in (suc k) id
 
 -- [01]
 abbrev pub named_scope : Tables → Option (List ℕ) → Option ℕ
-named_scope t none = none
-named_scope t (some name) = program_of t name
+named_scope t None = None
+named_scope t (Some name) = program_of t name
 
 -- class 0x6B and the start ID, or a known program and these; nothing more [01]
 unfoldable pub page_start : Tables → List Segment → Option Start
-page_start t [] = none
-page_start t (a ∷ []) = none
+page_start t [] = None
+page_start t (a ∷ []) = None
 page_start t (a ∷ (b ∷ [])) = start_in 0 (symbol_instance (object_of (a ∷ (b ∷ []))))
 page_start t (a ∷ (b ∷ (c ∷ []))) = start_of (named_scope t (name_of a)) (symbol_instance (object_of (b ∷ (c ∷ []))))
-page_start t (a ∷ (b ∷ (c ∷ (d ∷ rest)))) = none
+page_start t (a ∷ (b ∷ (c ∷ (d ∷ rest)))) = None
 
 -- 0x13 for a short list, 0x14 for an unknown attribute [01]
 abbrev pub page_of : Tables → (service : ℕ) → Start → Option (List ℕ) → (limit : ℕ) → List ℕ
-page_of t service s none limit = fail service too_short
-page_of t service s (some attributes) limit =
+page_of t service s None limit = fail service too_short
+page_of t service s (Some attributes) limit =
     pick (every is_listed attributes) (page_reply service (due t s.scope attributes s.id) limit) (fail service no_attribute)
 
 -- [01]
 abbrev pub page_from : Tables → (service : ℕ) → Option Start → (body : List ℕ) (limit : ℕ) → List ℕ
-page_from t service none body limit = fail service path_unknown
-page_from t service (some s) body limit = page_of t service s (counted body) limit
+page_from t service None body limit = fail service path_unknown
+page_from t service (Some s) body limit = page_of t service s (counted body) limit
 
 -- [01]
 unfoldable pub list_symbols : Tables → (service : ℕ) (path : List Segment) (body : List ℕ) (limit : ℕ) → List ℕ

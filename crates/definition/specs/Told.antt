@@ -1,7 +1,7 @@
 -- What is promised of `breach`: nothing is told exactly of valid tables, and what is told of a row is true of it, rule by rule. Each field of `Says` is a
 -- theorem.
 use Rattle.std.specs.Prelude.{◌≡◌, ◌≢◌, ◌⊎◌, ◌↔◌, true, false, List, [], ℕ, ◌+◌, ◌*◌, ◌≤◌, ◌<◌, max, eqb, length, get_or}
-use Rattle.std.proofs.Math.Option.{Option, none, some}
+use Rattle.std.specs.Prelude.{Option, None, Some}
 use Rattle.laws.specs.Pick.{pick}
 use Rattle.definition.specs.Names.{same_name, after_prefix}
 use Rattle.definition.specs.Tables.{Tables, Row, end_of_name, end_of_symbol_name, first_length, second_length, third_length, structure_name, template_id, handle, structure_size, first_member, member_count, is_aoi, template_start, template_length, member_type, member_length, member_offset, member_bit, is_hidden, is_local, member_access, symbol_scope, symbol_id, tag_name, tag_type, lengths_of, tag_elements, tag_access, is_alias, tag_offset, other_name, other_type}
@@ -10,7 +10,7 @@ use Rattle.definition.specs.Valid.{valid, product, is_bool_array, end_in}
 use Rattle.definition.specs.Breach.{Breach, row_at, structures_table, members_table, programs_table, tags_table, others_table, tag_memory, template_store, breach}
 
 abbrev pub NoneExactlyWhereValid : Type 0
-NoneExactlyWhereValid = (t : Tables) (memory : ℕ) → breach t memory ≡ none ↔ valid t memory ≡ true
+NoneExactlyWhereValid = (t : Tables) (memory : ℕ) → breach t memory ≡ None ↔ valid t memory ≡ true
 
 -- ---- a table by its number: its rows, how many rows or bytes it has and may have, its row's name and the store of its names
 
@@ -37,8 +37,8 @@ name_of t table r =
 
 -- the bytes of a row's name that T2 counts: of an other symbol's those after its prefix
 abbrev pub behind : (name : List ℕ) (after : Option (List ℕ)) → List ℕ
-behind name (some rest) = rest
-behind name none = name
+behind name (Some rest) = rest
+behind name None = name
 
 abbrev pub counted_of : Tables → (table : ℕ) → Row → List ℕ
 counted_of t table r = pick (eqb table others_table) (behind (name_of t table r) (after_prefix (name_of t table r))) (name_of t table r)
@@ -132,4 +132,4 @@ module _ (t : Tables) (memory : ℕ) (b : Breach) where
     pub shared_byte : b.rule ≡ 602 → SharedByte t.structures clash_row told_row × Later
 
 abbrev pub WhatIsToldIsTrue : Type 0
-WhatIsToldIsTrue = (t : Tables) (memory : ℕ) (b : Breach) → breach t memory ≡ some b → Says t memory b
+WhatIsToldIsTrue = (t : Tables) (memory : ℕ) (b : Breach) → breach t memory ≡ Some b → Says t memory b

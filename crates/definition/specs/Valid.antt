@@ -1,7 +1,7 @@
 -- Document 01, "Type, member, tag", T1 to T6, one test each, and item 4: the tables' encoding in rows.
 -- All of it is document 01's alone, but for the names of other symbols in T2: document 02, P2. A row's words have 32 bits by their type.
 use Rattle.std.specs.Prelude.{Bool, not, true, List, [], ◌∷◌, ℕ, ◌+◌, ◌*◌, ◌-◌, max, ltb, leb, eqb, length}
-use Rattle.std.proofs.Math.Option.{Option, none, some}
+use Rattle.std.specs.Prelude.{Option, None, Some}
 use Rattle.laws.specs.Pick.{pick, ◌&◌, either}
 use Rattle.laws.specs.Tests.{every, every_from, pairs}
 use Rattle.definition.specs.Names.{same_name, after_prefix}
@@ -89,8 +89,8 @@ is_name name =
 
 -- P2: an other symbol may have 0 to 40 bytes after `Program:`, `Routine:` or `Task:`, and has 1 to 40 in all without such a prefix
 unfoldable pub length_by : (name : List ℕ) (after : Option (List ℕ)) → Bool
-length_by name (some rest) = leb (length rest) 40
-length_by name none = ltb 0 (length name) & leb (length name) 40
+length_by name (Some rest) = leb (length rest) 40
+length_by name None = ltb 0 (length name) & leb (length name) 40
 
 unfoldable pub other_length : List ℕ → Bool
 other_length name = length_by name (after_prefix name)

@@ -3,13 +3,16 @@
 use mathlib.Core.Path.{◌≡◌, refl, sym, ap, ap₂, ◌∙◌}
 use mathlib.Core.Bool.{Bool, true, false, not}
 use mathlib.Core.List.{List, ◌++◌}
-use mathlib.Core.Option.{Option, none, some}
+use Rattle.std.specs.Prelude.{Option, None, Some}
 use Prim.Native.Nat.{ℕ, ◌+◌, ◌-◌, ◌*◌, ◌/◌, ◌≤◌, ◌<◌}
 use native.Mathlib.Omega.{arith}
 use lib.Dec.{eqb}
 use lib.ListN.{length, get_or, take, drop, length-append, length-drop}
 use lib.Seq.{get_or-take, get_or-drop, drop-drop, take-take, take_at, drop_at, take_all}
-use borrow.Author.Tests.{eqb-true, eq-eqb, ne_eqb, le-ltb}
+use borrow.Author.Tests.{eqb-true, eq-eqb, ne_eqb, le-ltb, not-true, not-false}
+use Rattle.std.specs.Prelude.{is_some}
+use Rattle.std.specs.Cmp.Lexicographic.{pointwise}
+use Rattle.input.proofs.Words.{same_text}
 use Rattle.laws.specs.Pick.{pick}
 use Rattle.laws.specs.Put.{put}
 use Rattle.laws.specs.Zip.{agree}
@@ -23,47 +26,40 @@ use Rattle.definition.specs.Request.{request, request_of, with_path}
 use Rattle.definition.specs.Joined.{pair, join, masks_in}
 use Rattle.definition.specs.Promises.{Masking}
 use Rattle.definition.proofs.Joined.{Sized, join_sized}
-use Rattle.input.specs.Clicks.{mask_start, mask_size, is_masked_write, masks_at, joins, joined_request, RequestsJoin}
+use Rattle.input.specs.Clicks.{mask_start, mask_size, is_masked_write, found_masks, masks_at, joins, joined_request, RequestsJoin}
 
 -- ---- a masked write, as the code finds it
 
 module _ (s : List ℕ) where
-  abbrev Found : ℕ → Type 0
-  Found at = (at ≡ pick (is_masked_write s) (mask_start s) 0) × (at ≤ length s)
-
-  pub cut_short : length s < mask_start s → Found 0
+  pub cut_short : length s < mask_start s → None ≡ found_masks s
   unfolding is_masked_write
-  cut_short h = rw (ne_eqb (length s) (mask_start s + 2 * mask_size s) (omega arith), both-none (eqb (get_or s 0 0) 0x4E)) (refl, omega arith)
+  cut_short h = rw (ne_eqb (length s) (mask_start s + 2 * mask_size s) (omega arith), both-none (eqb (get_or s 0 0) 0x4E)) refl
 
-  pub other-service : (get_or s 0 0 ≡ 0x4E → ⊥) → Found 0
+  pub other-service : (get_or s 0 0 ≡ 0x4E → ⊥) → None ≡ found_masks s
   unfolding is_masked_write
-  other-service h = rw (ne_eqb (get_or s 0 0) 0x4E h) (refl, omega arith)
+  other-service h = rw (ne_eqb (get_or s 0 0) 0x4E h) refl
 
-  module _ (at size n : ℕ) (first : get_or s 0 0 ≡ 0x4E) (e : at ≡ mask_start s) (u : n ≡ u16_at s (at - 2)) (q : size ≡ n) where
+  module _ (words size n : ℕ) (w : words ≡ get_or s 1 0) (u : n ≡ u16_at s (4 + 2 * words - 2)) (q : size ≡ n) where
     size_is : size ≡ mask_size s
-    size_is = let k : mask_start s - 2 ≡ 2 + 2 * get_or s 1 0 = omega arith in q ∙ u ∙ rw (e, k) refl
+    size_is = let k : mask_start s - 2 ≡ 2 + 2 * get_or s 1 0 = omega arith in q ∙ u ∙ rw (w, k) refl
 
-    pub other_length_lem : (length s ≡ at + 2 * size → ⊥) → Found 0
+    pub other_length_lem : (length s ≡ 4 + 2 * words + 2 * size → ⊥) → None ≡ found_masks s
     unfolding is_masked_write
-    other_length_lem h = rw (ne_eqb (length s) (mask_start s + 2 * mask_size s) (rw (e, size_is) at h), both-none (eqb (get_or s 0 0) 0x4E)) (refl, omega arith)
+    other_length_lem h = rw (ne_eqb (length s) (mask_start s + 2 * mask_size s) (rw (w, size_is) at h), both-none (eqb (get_or s 0 0) 0x4E)) refl
 
-    pub whole_write : length s ≡ at + 2 * size → Found at
+    pub whole_write : get_or s 0 0 ≡ 0x4E → length s ≡ 4 + 2 * words + 2 * size → Some (4 + 2 * words) ≡ found_masks s
     unfolding is_masked_write
-    whole_write h =
-        rw (eq-eqb (get_or s 0 0) 0x4E first, eq-eqb (length s) (mask_start s + 2 * mask_size s) (rw (e, size_is) at h)) (e, omega arith)
+    whole_write first h =
+        rw (eq-eqb (get_or s 0 0) 0x4E first, eq-eqb (length s) (mask_start s + 2 * mask_size s) (rw (w, size_is) at h)) (ap (λ (k : ℕ). Some (4 + 2 * k)) w)
 
-  module _ (at : ℕ) (found : at ≡ pick (is_masked_write s) (mask_start s) 0) where
-    pub is_none : at ≡ 0 → is_masked_write s ≡ false
-    is_none z = by_test (is_masked_write s) (λ t. let k = rw t at found in absurd (omega arith)) (λ t. t)
+  pub is_none : None ≡ found_masks s → is_masked_write s ≡ false
+  is_none e = by_test (is_masked_write s) (λ t. cc (rw t at e)) (λ t. t)
 
-    pub is_one : (at ≡ 0 → ⊥) → is_masked_write s ≡ true
-    is_one h = by_test (is_masked_write s) (λ t. t) (λ t. absurd (h (rw t at found)))
+  is_one : (at : ℕ) → Some at ≡ found_masks s → (is_masked_write s ≡ true) × (at ≡ mask_start s)
+  is_one at e = by_test (is_masked_write s) (λ t. (t, cc (rw t at e))) (λ t. cc (rw t at e))
 
-    pub is_it : not (eqb at 0) ≡ is_masked_write s
-    is_it =
-        by_test (is_masked_write s)
-        (λ t. let k = rw t at found in rw (t, ne_eqb at 0 (omega arith)) refl)
-        (λ t. let k = rw t at found in rw (t, eq-eqb at 0 k) refl)
+  pub is_it : (r : Option ℕ) → r ≡ found_masks s → is_some r ≡ is_masked_write s
+  is_it r e = by_test (is_masked_write s) (λ t. rw (t, rw t at e) refl) (λ t. rw (t, rw t at e) refl)
 
 module _ (row next : List ℕ) where
   pub not-joined : joins row next ≡ false → (false ≡ joins row next) × (row ≡ pick (joins row next) (joined_request row next) row)
@@ -73,56 +69,57 @@ module _ (row next : List ℕ) where
   unfolding is_masked_write
   row_long e = eqb-true (length row) (mask_start row + 2 * mask_size row) (both_true (eqb (get_or row 0 0) 0x4E) _ e).1
 
-  module _ (at : ℕ) (found : at ≡ pick (is_masked_write row) (mask_start row) 0) where
-    pub no_row : at ≡ 0 → joins row next ≡ false
+  pub no_row : None ≡ found_masks row → joins row next ≡ false
+  unfolding joins
+  no_row e = rw (is_none row e)
+
+  module _ (at : ℕ) (found : Some at ≡ found_masks row) where
+    start_is : at ≡ mask_start row
+    start_is = (is_one row at found).1
+
+    pub no_length : (length next ≡ length row → ⊥) → joins row next ≡ false
     unfolding joins
-    no_row z = rw (is_none row at found z)
+    no_length h = rw ((is_one row at found).0, ne_eqb (length next) (length row) h)
 
-    module _ (some_at : at ≡ 0 → ⊥) where
-      start_is : at ≡ mask_start row
-      start_is = rw (is_one row at found some_at) at found
-
-      pub no_length : (length next ≡ length row → ⊥) → joins row next ≡ false
+    module _ (n : length next ≡ length row) where
+      joins_is : joins row next ≡ agree eqb (take at row) (take at next)
       unfolding joins
-      no_length h = rw (is_one row at found some_at, ne_eqb (length next) (length row) h)
+      joins_is = rw ((is_one row at found).0, eq-eqb (length next) (length row) n, ← start_is)
 
-      module _ (n : length next ≡ length row) (same : Bool) (agrees : same ≡ agree eqb (take at row) (take at next)) where
-        joins_is : joins row next ≡ same
-        unfolding joins
-        joins_is = rw (is_one row at found some_at, eq-eqb (length next) (length row) n, ← start_is, ← agrees)
+      pub no_front : (r : Bool) → r ≡ not (pointwise eqb (take at row) (take at next)) → r ≡ true → joins row next ≡ false
+      no_front r e t = joins_is ∙ sym (same_text (take at row) (take at next)) ∙ not-true _ (sym e ∙ t)
 
-        pub no_front : same ≡ false → joins row next ≡ false
-        no_front e = joins_is ∙ e
+      -- what stands behind those bytes has two halves, the next request's masks
+      module _ (ands : ℕ) (half : ands ≡ at + (length next - at) / 2) where
+        size_of : length next - at ≡ 2 * mask_size row
+        size_of = let long = row_long (is_one row at found).0 in let e = start_is in omega arith
 
-        -- what stands behind those bytes has two halves, the next request's masks
-        module _ (ands : ℕ) (half : ands ≡ at + (length next - at) / 2) where
-          size_of : length next - at ≡ 2 * mask_size row
-          size_of = let long = row_long (is_one row at found some_at) in let e = start_is in omega arith
+        pub halves : (length (take (ands - at) (drop at next)) ≡ mask_size row) × (length (take (length next - ands) (drop ands next)) ≡ mask_size row)
+            × (at + 2 * mask_size row ≤ length row)
+        halves =
+            let long = row_long (is_one row at found).0 in
+            let e = start_is in (
+              length_part next at (ands - at) (omega arith) ∙ omega arith,
+              length_part next ands (length next - ands) (omega arith) ∙ omega arith,
+              omega arith,
+            )
 
-          pub halves : (length (take (length next - ands) (drop ands next)) ≡ length (take (ands - at) (drop at next)))
-              × (at + 2 * length (take (ands - at) (drop at next)) ≤ length row)
-          halves =
-              let long = row_long (is_one row at found some_at) in
-              let e = start_is in
-              let one = length_part next at (ands - at) (omega arith) in
-              let two = length_part next ands (length next - ands) (omega arith) in
-              (two ∙ omega arith ∙ sym one, omega arith)
-
-          pub row-joined : (new : List ℕ) → same ≡ true
-              → let ors = take (ands - at) (drop at next) in
-              let masks = join (masks_at row at (length ors)) (pair ors (take (length next - ands) (drop ands next))) in
-              new ≡ put row at (masks.ors ++ masks.ands)
-              → (true ≡ joins row next) × (new ≡ pick (joins row next) (joined_request row next) row)
-          unfolding joined_request
-          row-joined new t put_is =
-              let long = row_long (is_one row at found some_at) in
-              let e = start_is in
-              let size = mask_size row in
-              let one : ands - at ≡ size = omega arith in
-              let two : length next - ands ≡ size = omega arith in
-              let three : ands ≡ at + size = omega arith in
-              let ors : length (take size (drop at next)) ≡ size = length_part next at size (omega arith) in
-              rw (joins_is, t) (refl, rw (← e) (rw (one, two, three, ors) at put_is))
+        pub row-joined : (new : List ℕ) (r : Bool) → r ≡ not (pointwise eqb (take at row) (take at next)) → r ≡ false
+            → let ors = take (ands - at) (drop at next) in
+            let masks = join (masks_at row at (length ors)) (pair ors (take (length next - ands) (drop ands next))) in
+            new ≡ put row at (masks.ors ++ masks.ands)
+            → (true ≡ joins row next) × (new ≡ pick (joins row next) (joined_request row next) row)
+        unfolding joined_request
+        row-joined new r q t put_is =
+            let long = row_long (is_one row at found).0 in
+            let e = start_is in
+            let size = mask_size row in
+            let one : ands - at ≡ size = omega arith in
+            let two : length next - ands ≡ size = omega arith in
+            let three : ands ≡ at + size = omega arith in
+            let ors : length (take size (drop at next)) ≡ size = length_part next at size (omega arith) in
+            let same : joins row next ≡ true = joins_is ∙ sym (same_text (take at row) (take at next)) ∙ not-false _ (sym q ∙ t) in
+            rw same (refl, rw (← e) (rw (one, two, three, ors) at put_is))
 
 -- ---- a request whose bytes before the masks are the row's, and which is as long
 
@@ -151,7 +148,7 @@ module _ (row : List ℕ) (long : length row ≡ mask_start row + 2 * mask_size 
       rw (byte_is s 0 f (omega arith), byte_is s 1 f (omega arith), path_is s f, le-ltb (length s) (2 + 2 * words) (omega arith)) refl
 
   -- the masks of its body are those that stand at the row's place
-  body-masks : (s : List ℕ) → Fronted s → masks_in (drop (2 + 2 * words) s) ≡ some (masks_at s (mask_start row) (mask_size row))
+  body-masks : (s : List ℕ) → Fronted s → masks_in (drop (2 + 2 * words) s) ≡ Some (masks_at s (mask_start row) (mask_size row))
   unfolding masks_in
   body-masks s f =
       let at = 2 + 2 * words in
@@ -175,8 +172,8 @@ module _ (row : List ℕ) (long : length row ≡ mask_start row + 2 * mask_size 
     where
       go : (o : Option (List Segment)) → with_path (get_or row 0 0) o (drop (2 + 2 * words) row) ≡ request 0x4E path body
           → request_of s ≡ with_path (get_or row 0 0) o (drop (2 + 2 * words) s) → Masking path (masks_at s (mask_start row) (mask_size row)) s
-      go none e r = clash (cc e)
-      go (some p) e r =
+      go None e r = clash (cc e)
+      go (Some p) e r =
           let service : get_or row 0 0 ≡ 0x4E = cc e in
           let same : p ≡ path = cc e in
           record {

@@ -1,6 +1,7 @@
 pub mod Rows
 pub mod Text
+pub mod Digits
 pub mod Parsing
 pub mod Worked
-pub mod Choosing
+pub mod Words
 pub mod Joining

@@ -1,143 +1,52 @@
--- What a line asks: the turns of the loops that read it. Assumes nothing.
+-- What a line asks: blanks that are skipped, the turns of the loop that reads the bytes, and the line by its parts.
+-- Assumes nothing.
 use mathlib.Core.Path.{◌≡◌, refl, sym, ap, subst, ◌∙◌}
-use mathlib.Core.Logic.{◌⊎◌, inl, inr}
-use mathlib.Core.Bool.{Bool, true, false}
+use mathlib.Core.Bool.{Bool, true, false, not}
 use mathlib.Core.List.{List, [], ◌∷◌, ◌++◌, append-nil, append_assoc}
-use Prim.Native.Nat.{ℕ, suc, ◌+◌, ◌-◌, ◌*◌, ◌<◌, ◌≤◌}
+use Prim.Native.Nat.{ℕ, suc, ◌+◌, ◌-◌, ◌<◌, ◌≤◌}
 use native.Mathlib.Omega.{arith}
 use native.Mathlib.Numerals.{add-one}
 use native.Mathlib.Nat.{zero-add}
-use lib.Dec.{ltb, leb, eqb}
-use lib.ListN.{length, get_or, take, drop, set, length-drop, drop_of_length-le, take-append-drop}
-use lib.Seq.{take-suc, take_all, drop-cons, drop-drop, get_or-drop, length-take-le, take-suc-set, drop-set-lt}
-use borrow.Author.Tests.{ne_eqb, lt-leb, lt-ltb, le-ltb, le-leb, leb-false, ltb-true, ltb-false, not-true}
-use Rattle.laws.proofs.Chain.{either_no, both_off, both_off_2, by_test, pick_all}
-use Rattle.laws.proofs.Tests.{pick_by}
+use lib.Dec.{leb, ltb, eqb}
+use lib.ListN.{length, get_or, take, drop, set, take-append-drop, length-set, length-drop}
+use lib.Seq.{length-take-le, take-suc-set, drop-set-lt, drop-drop}
+use borrow.Author.Tests.{lt-leb, le-leb, ne_eqb, eq-eqb, leb-false, ltb-false}
+use Rattle.std.specs.Prelude.{Result, Ok, Err, None, IfOk, IfSome}
 use Rattle.laws.specs.Put.{put}
+use Rattle.laws.specs.Tests.{stretch}
+use Rattle.laws.proofs.Chain.{by_test, pick_all}
+use Rattle.laws.proofs.Tests.{pick_by}
+use Rattle.laws.proofs.Parts.{to_end}
 use Rattle.laws.proofs.Put.{put-none}
 use Rattle.input.specs.Text.{up_to}
-use Rattle.laws.specs.Tests.{stretch}
 use Rattle.input.proofs.Text.{take-stretch}
 use Rattle.input.specs.declared.hex.Fault.{Fault}
-use Rattle.input.specs.declared.hex.Fault.TheVariants.{TooLong, NoNumber, OverLimit}
-use Rattle.input.specs.declared.hex.Line.{Line}
-use Rattle.input.specs.declared.hex.Line.TheVariants.{Empty, Request, Wrong}
-use Rattle.input.specs.Lines.{Parsed, ends, behind, is_blank, between, digit_of, is_number, number, byte_of, fault_of, bytes_in, limited_by, asked_by, parsed}
-use Rattle.input.specs.Lines.{ReadsLine, is_stop, Capped, tenfold_of}
-
--- ---- characters
-
-pub blank_is : (c : ℕ) → (c ≡ 0x09) ⊎ ((c ≡ 0x0D) ⊎ (c ≡ 0x20)) → true ≡ is_blank c
-blank_is c (inl e) = rw e
-blank_is c (inr (inl e)) = rw e
-blank_is c (inr (inr e)) = rw e
-
-pub blank_not : (c : ℕ) → ((c ≡ 0x09) ⊎ ((c ≡ 0x0D) ⊎ (c ≡ 0x20)) → ⊥) → false ≡ is_blank c
-blank_not c n =
-    either_no _ _ _ (ne_eqb c 0x09 (λ e. n (inl e)))
-    (either_no _ _ _ (ne_eqb c 0x0D (λ e. n (inr (inl e)))) (sym (ne_eqb c 0x20 (λ e. n (inr (inr e))))))
-
-under : (low high c : ℕ) → c < low → between low high c ≡ false
-under low high c h = both_off _ _ (lt-leb low c h)
-
-over : (low high c : ℕ) → high < c → between low high c ≡ false
-over low high c h = both_off_2 (leb low c) _ (lt-leb c high h)
-
--- no hex digit: before the digits, between them and the letters, between these, and after them
-module _ (c : ℕ) where
-  no_digit : between 0x30 0x39 c ≡ false → between 0x41 0x46 c ≡ false → between 0x61 0x66 c ≡ false → 16 ≡ digit_of c
-  unfolding digit_of
-  no_digit d u l = sym (rw (d, u, l))
-
-  pub before_digits : c < 0x30 → 16 ≡ digit_of c
-  before_digits h = no_digit (under 0x30 0x39 c h) (under 0x41 0x46 c (omega arith)) (under 0x61 0x66 c (omega arith))
-
-  pub before_capitals : 0x3A ≤ c → c < 0x41 → 16 ≡ digit_of c
-  before_capitals g h = no_digit (over 0x30 0x39 c g) (under 0x41 0x46 c h) (under 0x61 0x66 c (omega arith))
-
-  pub before_small : 0x47 ≤ c → c < 0x61 → 16 ≡ digit_of c
-  before_small g h = no_digit (over 0x30 0x39 c (omega arith)) (over 0x41 0x46 c g) (under 0x61 0x66 c h)
-
-  pub after_small : 0x67 ≤ c → 16 ≡ digit_of c
-  after_small g = no_digit (over 0x30 0x39 c (omega arith)) (over 0x41 0x46 c (omega arith)) (over 0x61 0x66 c g)
-
--- ---- two digits, by what the code has found of each
-
-module _ (high low h : ℕ) (h-is : h ≡ digit_of high) where
-  pub no_high : 15 < h → 256 ≡ byte_of high low
-  unfolding byte_of
-  no_high t = sym (rw (← h-is, lt-ltb 15 h t))
-
-  pub no_low : h ≤ 15 → is_blank low ≡ true → 257 ≡ byte_of high low
-  unfolding byte_of
-  no_low t b = sym (rw (← h-is, le-ltb 15 h t, b))
-
-  module _ (l : ℕ) (l-is : l ≡ digit_of low) (t : h ≤ 15) (b : is_blank low ≡ false) where
-    pub bad_low : 15 < l → 256 ≡ byte_of high low
-    unfolding byte_of
-    bad_low u = sym (rw (← h-is, le-ltb 15 h t, b, ← l-is, lt-ltb 15 l u))
-
-    pub whole_byte : l ≤ 15 → 16 * h + l ≡ byte_of high low
-    unfolding byte_of
-    whole_byte u = sym (rw (← h-is, le-ltb 15 h t, b, ← l-is, le-ltb 15 l u))
-
--- ---- the limit: the digits before i are counted
-
-number_more : (n : ℕ) (word : List ℕ) (c : ℕ) → number n (word ++ (c ∷ [])) ≡ 10 * number n word + digit_of c
-unfolding number
-number_more n [] c = refl
-number_more n (x ∷ word) c = number_more (10 * n + digit_of x) word c
-
-pub none-counted : Capped (number 0 []) 0
-unfolding number
-none-counted = record { small = λ s. refl; large = λ l. absurd (omega arith) }
-
-capped_more : (exact n c r : ℕ) → Capped exact n → r ≡ tenfold_of n c → Capped (10 * exact + digit_of c) r
-capped_more exact n c r k e =
-    by_test (ltb 6553 n)
-    (λ t. let v : r ≡ 65536 = e ∙ rw t in
-    let over = ltb-true 6553 n t in
-    record { small = λ s. absurd (omega (arith, k.small (omega arith))); large = λ s. omega arith })
-    (λ t. let v : r ≡ 10 * n + digit_of c = e ∙ rw t in
-    let under = ltb-false 6553 n t in
-    record {
-      small = λ s. omega (arith, k.small (omega arith));
-      large = λ s. by_test (ltb 65535 exact) (λ u. absurd (omega (arith, k.large (ltb-true 65535 exact u))))
-          (λ u. omega (arith, k.small (ltb-false 65535 exact u)));
-    })
-
-pub counted_more : (word : List ℕ) (i n j r : ℕ) → Capped (number 0 (take i word)) n → i < length word → r ≡ tenfold_of n (get_or word i 0) → j ≡ i + 1
-    → Capped (number 0 (take j word)) r
-counted_more word i n j r k h e t =
-    rw (t, add-one i, take-suc word i 0 h, number_more 0 (take i word) (get_or word i 0)) (capped_more (number 0 (take i word)) n (get_or word i 0) r k e)
-
-pub all-counted : (word : List ℕ) (i n : ℕ) → Capped (number 0 (take i word)) n → length word ≤ i → Capped (number 0 word) n
-all-counted word i n k h = rw (take_all i word h) at k
+use Rattle.input.specs.declared.hex.Fault.TheVariants.{TooLong}
+use Rattle.input.specs.Lines.{Asks, asks_for, Parsed, ends, behind, is_blank, after_blanks, word_in, is_number, number, limit_of, with_limit}
+use Rattle.input.specs.Lines.{byte_of, with_byte, lone_fault, bytes_in, limited_by, asked_by, parsed, ReadsLine}
 
 -- ---- blanks that are skipped
 
-stretch_stops : (p : ℕ → Bool) (l : List ℕ) → length (stretch p l) < length l → p (get_or l (length (stretch p l)) 0) ≡ true
-unfolding stretch
-stretch_stops p [] h = absurd (omega arith)
-stretch_stops p (x ∷ l) h =
-    by_test (p x) (λ t. rw t t) (λ t. rw t (stretch_stops p l (omega (arith, rw t at h))))
+pub blanks_end : (text : List ℕ) → drop (length (stretch (λ x. not (is_blank x)) text)) text ≡ after_blanks text
+unfolding stretch after_blanks
+blanks_end [] = refl
+blanks_end (c ∷ text) = by_test (is_blank c) (λ t. rw t (blanks_end text)) (λ t. rw t refl)
+
+-- it begins with no blank
+abbrev Begins : List ℕ → Type 0
+Begins [] = Unit {0}
+Begins (c ∷ text) = is_blank c ≡ false
+
+begins : (text : List ℕ) → Begins (after_blanks text)
+unfolding after_blanks
+begins [] = tt
+begins (c ∷ text) = by_test (is_blank c) (λ t. rw t (begins text)) (λ t. rw t t)
 
 -- a reading that goes over blanks gives the same from the first character that is none
-module _ {A : Type 0} (f : List ℕ → A) (over : (x : ℕ) (l : List ℕ) → is_blank x ≡ true → f (x ∷ l) ≡ f l) where
-  skip : (l : List ℕ) → f l ≡ f (drop (length (stretch (is_stop false) l)) l)
-  unfolding stretch
-  skip [] = refl
-  skip (x ∷ l) =
-      by_test (is_blank x) (λ t. rw t (over x l t ∙ skip l))
-      (λ t. let u : stretch (is_stop false) (x ∷ l) ≡ [] = rw t in ap (λ (k : List ℕ). f (drop (length k) (x ∷ l))) (sym u))
-
-  pub skip_to : (text : List ℕ) (at r : ℕ) → r ≡ at + length (stretch (is_stop false) (drop at text)) → f (drop at text) ≡ f (drop r text)
-  skip_to text at r e = skip (drop at text) ∙ ap f (drop-drop (length (stretch (is_stop false) (drop at text))) at text ∙ ap (λ (k : ℕ). drop k text) (sym e))
-
-pub no_blank : (text : List ℕ) (at r : ℕ) → r ≡ at + length (stretch (is_stop false) (drop at text)) → r < length text → is_blank (get_or text r 0) ≡ false
-no_blank text at r e h =
-    let s = stretch_stops (is_stop false) (drop at text) (rw length-drop (omega arith)) in
-    ap (λ (k : ℕ). is_blank (get_or text k 0)) e ∙ ap is_blank (sym (get_or-drop at text _ 0)) ∙ not-true _ s
+skip : {A : Type 0} (f : List ℕ → A) (over : (x : ℕ) (l : List ℕ) → is_blank x ≡ true → f (x ∷ l) ≡ f l) (text : List ℕ) → f text ≡ f (after_blanks text)
+unfolding after_blanks
+skip f over [] = refl
+skip f over (x ∷ text) = by_test (is_blank x) (λ t. rw t (over x text t ∙ skip f over text)) (λ t. rw t refl)
 
 bytes-over : (limit most n x : ℕ) (l : List ℕ) → is_blank x ≡ true → bytes_in limit most n (x ∷ l) ≡ bytes_in limit most n l
 unfolding bytes_in
@@ -150,190 +59,200 @@ asked_over most x l t = rw t
 
 -- ---- the bytes
 
--- n bytes are read into the request, and the text from `at` on goes on with them
-pub record Gathering (limit : ℕ) (text old : List ℕ) (start at n : ℕ) (request : List ℕ) : Type 0 where
-  pub whole : bytes_in limit (length old) 0 (drop start text) ≡ behind (take n request) (bytes_in limit (length old) n (drop at text))
-  pub rest : drop n request ≡ drop n old
-  pub no_blank_here : at < length text → is_blank (get_or text at 0) ≡ false
+two_more : (limit most n : ℕ) (rest : List ℕ) → Begins rest → 2 ≤ length rest
+    → bytes_in limit most n rest
+    ≡ with_byte (byte_of (get_or rest 0 0) (get_or rest 1 0)) (leb most n) (bytes_in limit most (suc n) (drop 2 rest))
+unfolding bytes_in
+two_more limit most n [] b h = absurd (omega arith)
+two_more limit most n (x ∷ []) b h = absurd (omega arith)
+two_more limit most n (x ∷ y ∷ rest) b h = rw b refl
 
-pub going_start : (limit : ℕ) (text old : List ℕ) (start at : ℕ) → at ≡ start + length (stretch (is_stop false) (drop start text))
-    → Gathering limit text old start at 0 old
-going_start limit text old start at e = record {
-  whole = skip_to (bytes_in limit (length old) 0) (bytes-over limit (length old) 0) text start at e;
-  rest = refl;
-  no_blank_here = no_blank text start at e;
-}
+last_one : (limit most n : ℕ) (rest : List ℕ) → Begins rest → 1 ≤ length rest → length rest < 2
+    → bytes_in limit most n rest ≡ ends (Err (lone_fault (get_or rest 0 0)))
+unfolding bytes_in
+last_one limit most n [] b h l = absurd (omega arith)
+last_one limit most n (x ∷ []) b h l = rw b refl
+last_one limit most n (x ∷ y ∷ rest) b h l = absurd (omega arith)
 
-module _ (limit : ℕ) (text old : List ℕ) (start at n : ℕ) (request : List ℕ) (g : Gathering limit text old start at n request) where
+no_more : (limit most n : ℕ) (rest : List ℕ) → length rest < 1 → bytes_in limit most n rest ≡ ends (asks_for limit n)
+unfolding bytes_in
+no_more limit most n [] h = refl
+no_more limit most n (x ∷ rest) h = absurd (omega arith)
+
+after-short : (text : List ℕ) → length (after_blanks text) ≤ length text
+unfolding after_blanks
+after-short [] = omega arith
+after-short (c ∷ text) = by_test (is_blank c) (λ t. rw t (omega (arith, after-short text))) (λ t. rw t (omega arith))
+
+-- two characters fewer are left
+pub going_less : (rest next : List ℕ) → 2 ≤ length rest → next ≡ after_blanks (take (length rest - 2) (drop 2 rest)) → length next < length rest
+going_less rest next h e = rw (e, to_end rest 2) (omega (arith, after-short (drop 2 rest), length-drop 2 rest))
+
+-- n bytes are read into the request, and the text `rest`, which begins with no blank, goes on with them
+pub record Gathering (limit : ℕ) (text old rest : List ℕ) (n : ℕ) (request : List ℕ) : Type 0 where
+  pub whole : bytes_in limit (length old) 0 text ≡ behind (take n request) (bytes_in limit (length old) n rest)
+  pub unread : drop n request ≡ drop n old
+  pub begun : Begins rest
+  pub fits : n ≤ length old
+  pub long : length request ≡ length old
+
+pub going_start : (limit : ℕ) (text old rest : List ℕ) → rest ≡ after_blanks text → Gathering limit text old rest 0 old
+going_start limit text old rest e = rw e (record {
+  whole = skip (bytes_in limit (length old) 0) (bytes-over limit (length old) 0) text;
+  unread = refl;
+  begun = begins text;
+  fits = omega arith;
+  long = refl;
+})
+
+module _ (limit : ℕ) (text old rest : List ℕ) (n : ℕ) (request : List ℕ) (g : Gathering limit text old rest n request) where
   -- where the text from here on says what is asked, that is the answer
-  answered : (x : Line) → bytes_in limit (length old) n (drop at text) ≡ ends x → n ≤ length old → length request ≡ length old
-      → ReadsLine (bytes_in limit (length old) 0 (drop start text)) old x request
+  answered : (x : Asks) → bytes_in limit (length old) n rest ≡ ends x → ReadsLine (bytes_in limit (length old) 0 text) old x request
   unfolding put
-  answered x e h l =
-      let w : bytes_in limit (length old) 0 (drop start text) ≡ record { asks = x; bytes = take n request } =
+  answered x e =
+      let w : bytes_in limit (length old) 0 text ≡ record { asks = x; bytes = take n request } =
       g.whole ∙ ap (behind (take n request)) e ∙ ap (λ (b : List ℕ). record { asks = x; bytes = b }) (append-nil (take n request)) in
       rw w (record {
         asks_is = refl;
-        buffer_is = sym (take-append-drop n request) ∙ rw (zero-add, length-take-le n request (omega arith), g.rest);
+        buffer_is = sym (take-append-drop n request) ∙ rw (zero-add, length-take-le n request (omega (arith, g.fits, g.long)), g.unread);
       })
 
-  pub going_end : length text ≤ at → n ≤ length old → length request ≡ length old
-      → ReadsLine (bytes_in limit (length old) 0 (drop start text)) old (Request limit n) request
-  unfolding bytes_in
-  going_end h = answered (Request limit n) (rw (drop_of_length-le text h))
+  pub going_fault : (f : Fault) → 2 ≤ length rest → Err f ≡ byte_of (get_or rest 0 0) (get_or rest 1 0)
+      → ReadsLine (bytes_in limit (length old) 0 text) old (Err f) request
+  going_fault f h e = answered (Err f) (two_more limit (length old) n rest g.begun h ∙ rw (← e) refl)
 
-  pub going_odd : (f : Fault) (b : ℕ) → at < length text → length text - at < 2 → b ≡ byte_of (get_or text at 0) 0x20 → f ≡ fault_of b → n ≤ length old
-      → length request ≡ length old → ReadsLine (bytes_in limit (length old) 0 (drop start text)) old (Wrong f) request
-  unfolding bytes_in
-  going_odd f b h k e q =
-      let one : drop at text ≡ get_or text at 0 ∷ [] =
-      drop-cons text at 0 h ∙ ap (λ (l : List ℕ). get_or text at 0 ∷ l) (drop_of_length-le text {i = suc at} (omega arith)) in
-      answered (Wrong f) (rw (one, g.no_blank_here h, q, e))
+  module _ (b : ℕ) (h : 2 ≤ length rest) (e : Ok b ≡ byte_of (get_or rest 0 0) (get_or rest 1 0)) where
+    pub going_full : length request ≤ n → ReadsLine (bytes_in limit (length old) 0 text) old (Err TooLong) request
+    going_full f =
+        answered (Err TooLong) (two_more limit (length old) n rest g.begun h ∙ rw (← e, le-leb (length old) n (omega (arith, g.long))) refl)
 
-  module _ (b : ℕ) (h : at < length text) (k : 2 ≤ length text - at) (e : b ≡ byte_of (get_or text at 0) (get_or text (at + 1) 0)) where
-    two : drop at text ≡ get_or text at 0 ∷ get_or text (at + 1) 0 ∷ drop (at + 2) text
-    two =
-        let m : suc (suc at) ≡ at + 2 = omega arith in
-        drop-cons text at 0 h ∙ ap (λ (l : List ℕ). get_or text at 0 ∷ l) (drop-cons text (suc at) 0 (omega arith) ∙ rw (m, ← add-one at))
+    more : n < length old → bytes_in limit (length old) n rest ≡ behind (b ∷ []) (bytes_in limit (length old) (suc n) (drop 2 rest))
+    more f = two_more limit (length old) n rest g.begun h ∙ rw (← e, lt-leb (length old) n f) refl
 
-    pub going_fault : (f : Fault) → 255 < b → f ≡ fault_of b → n ≤ length old → length request ≡ length old
-        → ReadsLine (bytes_in limit (length old) 0 (drop start text)) old (Wrong f) request
-    unfolding bytes_in
-    going_fault f o q = answered (Wrong f) (rw (two, g.no_blank_here h, ← e, lt-ltb 255 b o, q))
-
-    pub going_full : b ≤ 255 → length old ≤ n → n ≤ length old → length request ≡ length old
-        → ReadsLine (bytes_in limit (length old) 0 (drop start text)) old (Wrong TooLong) request
-    unfolding bytes_in
-    going_full o f = answered (Wrong TooLong) (rw (two, g.no_blank_here h, ← e, le-ltb 255 b o, le-leb (length old) n f))
-
-    one_more : b ≤ 255 → n < length old
-        → bytes_in limit (length old) n (drop at text) ≡ behind (b ∷ []) (bytes_in limit (length old) (suc n) (drop (at + 2) text))
-    unfolding bytes_in
-    one_more o f = rw (two, g.no_blank_here h, ← e, le-ltb 255 b o, lt-leb (length old) n f)
-
-    pub going_more : (r m : ℕ) → b ≤ 255 → n < length old → length request ≡ length old → m ≡ n + 1
-        → r ≡ at + 2 + length (stretch (is_stop false) (drop (at + 2) text)) → Gathering limit text old start r m (set request n b)
-    going_more r m o f l t s =
-        let q : m ≡ suc n = omega arith in
-        let skipped = skip_to (bytes_in limit (length old) (suc n)) (bytes-over limit (length old) (suc n)) text (at + 2) r s in
-        let stored = take-suc-set request n b (omega arith) in
-        rw q (record {
-          whole = g.whole ∙ ap (behind (take n request)) (one_more o f ∙ ap (behind (b ∷ [])) skipped)
-              ∙ ap (λ (z : List ℕ). record { asks = (bytes_in limit (length old) (suc n) (drop r text)).asks; bytes = z })
-              (sym (append_assoc (take n request) (b ∷ []) (bytes_in limit (length old) (suc n) (drop r text)).bytes))
-              ∙ ap (λ (z : List ℕ). behind z (bytes_in limit (length old) (suc n) (drop r text))) (sym stored);
-          rest = drop-set-lt (suc n) request n b (omega arith) ∙ sym (rest_of request) ∙ ap (drop 1) g.rest ∙ rest_of old;
-          no_blank_here = no_blank text (at + 2) r s;
+    pub going_more : (next : List ℕ) → n < length request → next ≡ after_blanks (take (length rest - 2) (drop 2 rest))
+        → Gathering limit text old next (n + 1) (set request n b)
+    going_more next f s =
+        let room : n < length old = omega (arith, g.long) in
+        let after : List ℕ = after_blanks (drop 2 rest) in
+        let there : next ≡ after = s ∙ ap after_blanks (to_end rest 2) in
+        let further : bytes_in limit (length old) n rest ≡ behind (b ∷ []) (bytes_in limit (length old) (suc n) after) =
+        more room ∙ ap (behind (b ∷ [])) (skip (bytes_in limit (length old) (suc n)) (bytes-over limit (length old) (suc n)) (drop 2 rest)) in
+        let stored : take (suc n) (set request n b) ≡ take n request ++ (b ∷ []) = take-suc-set request n b f in
+        let dropped : drop (suc n) (set request n b) ≡ drop (suc n) old =
+        drop-set-lt (suc n) request n b (omega arith) ∙ sym (rest_of request) ∙ ap (drop 1) g.unread ∙ rest_of old in
+        rw (add-one n, there) (record {
+          whole = g.whole ∙ ap (behind (take n request)) further
+              ∙ ap (λ (z : List ℕ). record { asks = (bytes_in limit (length old) (suc n) after).asks; bytes = z })
+              (sym (append_assoc (take n request) (b ∷ []) (bytes_in limit (length old) (suc n) after).bytes))
+              ∙ ap (λ (z : List ℕ). behind z (bytes_in limit (length old) (suc n) after)) (sym stored);
+          unread = dropped;
+          begun = begins (drop 2 rest);
+          fits = room;
+          long = length-set request n b ∙ g.long;
         })
       where
         rest_of : (xs : List ℕ) → drop 1 (drop n xs) ≡ drop (suc n) xs
         rest_of xs = drop-drop 1 n xs ∙ ap (λ (k : ℕ). drop k xs) (add-one n)
 
+  pub going_odd : 1 ≤ length rest → length rest < 2 → ReadsLine (bytes_in limit (length old) 0 text) old (Err (lone_fault (get_or rest 0 0))) request
+  going_odd h l = answered _ (last_one limit (length old) n rest g.begun h l)
+
+  pub going_end : length rest < 1 → ReadsLine (bytes_in limit (length old) 0 text) old (asks_for limit n) request
+  going_end h = answered _ (no_more limit (length old) n rest h)
+
 -- ---- the line
 
-pub reads_as : {p q : Parsed} {old : List ℕ} {r : Line} {new : List ℕ} → q ≡ p → ReadsLine p old r new → ReadsLine q old r new
-reads_as e s = rw e s
-
 -- nothing is read
-pub reads_none : {q : Parsed} {r : Line} (old : List ℕ) → q ≡ ends r → ReadsLine q old r old
-reads_none old e = rw e (record { asks_is = refl; buffer_is = sym (put-none old 0) })
+reads_none : (q : Parsed) (r : Asks) (old : List ℕ) → q ≡ ends r → ReadsLine q old r old
+reads_none q r old e = rw e (record { asks_is = refl; buffer_is = sym (put-none old 0) })
 
-module _ (most at end : ℕ) (text : List ℕ) (ends_at : end ≡ at + length (stretch is_blank (drop at text))) where
-  word_is : take (end - at) (drop at text) ≡ stretch is_blank (drop at text)
-  word_is =
-      let n : end - at ≡ length (stretch is_blank (drop at text)) = omega arith in
-      ap (λ (k : ℕ). take k (drop at text)) n ∙ take-stretch is_blank (drop at text)
-
-  pub no_number : is_number (take (end - at) (drop at text)) ≡ false → limited_by most (drop at text) ≡ ends (Wrong NoNumber)
+module _ (text word old : List ℕ) (is : word ≡ word_in text) where
+  pub limit_wrong : (f : Fault) → Err f ≡ limit_of word → ReadsLine (limited_by (length old) text) old (Err f) old
   unfolding limited_by
-  no_number f = rw (rw word_is at f)
+  limit_wrong f e = reads_none _ _ old (rw (← is, ← e) refl)
 
-  module _ (n : ℕ) (is : is_number (take (end - at) (drop at text)) ≡ true) (counts : Capped (number 0 (take (end - at) (drop at text))) n) where
-    counted : Capped (number 0 (stretch is_blank (drop at text))) n
-    counted = rw word_is at counts
+  pub limit_right : (n : ℕ) (rest : List ℕ) (r : Asks) (new : List ℕ) → Ok n ≡ limit_of word → rest ≡ drop (length (word_in text)) text
+      → ReadsLine (bytes_in n (length old) 0 rest) old r new → ReadsLine (limited_by (length old) text) old r new
+  unfolding limited_by
+  limit_right n rest r new e d s = rw (← d, ← is, ← e) s
 
-    pub over-limit : 65535 < n → limited_by most (drop at text) ≡ ends (Wrong OverLimit)
-    unfolding limited_by
-    over-limit h =
-        by_test (ltb 65535 (number 0 (stretch is_blank (drop at text)))) (λ t. rw (rw word_is at is, t))
-        (λ t. let l = ltb-false 65535 (number 0 (stretch is_blank (drop at text))) t in absurd (omega (arith, counted.small l)))
-
-    pub has_limit : n ≤ 65535 → limited_by most (drop at text) ≡ bytes_in n most 0 (drop end text)
-    unfolding limited_by
-    has_limit h =
-        by_test (ltb 65535 (number 0 (stretch is_blank (drop at text))))
-        (λ t. absurd (omega (arith, counted.large (ltb-true _ _ t))))
-        (λ t. rw (rw word_is at is, t, ← (counted.small (ltb-false _ _ t)), drop-drop, ← ends_at))
-
-module _ (most at : ℕ) (text : List ℕ) (skips : at ≡ 0 + length (stretch (is_stop false) (drop 0 text))) where
-  skipped : asked_by most text ≡ asked_by most (drop at text)
-  skipped = skip_to (asked_by most) (asked_over most) text 0 at skips
-
-  pub is_empty_lem : length text ≤ at → asked_by most text ≡ ends Empty
-  unfolding asked_by
-  is_empty_lem h = skipped ∙ rw (drop_of_length-le text h)
-
-  pub is_limited : at < length text → get_or text at 0 ≡ 0x40 → asked_by most text ≡ limited_by most (drop (at + 1) text)
-  unfolding asked_by
-  is_limited h e = skipped ∙ rw (drop-cons text at 0 h, no_blank text 0 at skips h, e, add-one at)
-
-  pub is_plain : at < length text → (get_or text at 0 ≡ 0x40 → ⊥) → asked_by most text ≡ bytes_in 500 most 0 (drop at text)
-  unfolding asked_by
-  is_plain h e = skipped ∙ rw (drop-cons text at 0 h, no_blank text 0 at skips h, ne_eqb (get_or text at 0) 0x40 e)
-
-pub without_comment : (most end : ℕ) (line : List ℕ) → end ≡ 0 + length (up_to 0x23 (drop 0 line)) → parsed most line ≡ asked_by most (take end line)
-unfolding parsed
-without_comment most end line e =
-    let n : end ≡ length (up_to 0x23 line) = omega arith in
-    rw (n, take-stretch (λ x. eqb x 0x23) line)
-
--- ---- what a request that was read keeps to: its limit, its buffer, and the number of its bytes (n of them before those read here)
-
-abbrev Kept : (most n : ℕ) → Line → List ℕ → Type 0
-Kept most n Empty bytes = Unit {0}
-Kept most n (Wrong f) bytes = Unit {0}
-Kept most n (Request limit m) bytes = (limit ≤ 65535) × (m ≤ most) × (m ≡ n + length bytes)
-
-kept_more : (most n b : ℕ) (x : Line) (bytes : List ℕ) → Kept most (suc n) x bytes → Kept most n x (b ∷ bytes)
-kept_more most n b Empty bytes k = tt
-kept_more most n b (Wrong f) bytes k = tt
-kept_more most n b (Request limit m) bytes k = (k.0, k.1, omega (arith, k.2))
-
-kept_bytes : (limit most n : ℕ) (text : List ℕ) → limit ≤ 65535 → n ≤ most → Kept most n (bytes_in limit most n text).asks (bytes_in limit most n text).bytes
-unfolding bytes_in
-kept_bytes limit most n [] h l = (h, l, omega arith)
-kept_bytes limit most n (x ∷ []) h l = pick_all (λ (p : Parsed). Kept most n p.asks p.bytes) (is_blank x) (h, l, omega arith) tt
-kept_bytes limit most n (x ∷ y ∷ text) h l =
-    let P : Parsed → Type 0 = λ p. Kept most n p.asks p.bytes in
-    pick_all P (is_blank x) (kept_bytes limit most n (y ∷ text) h l)
-    (pick_all P (ltb 255 (byte_of x y)) tt
-    (pick_by P (leb most n) (λ t. tt)
-    (λ t. kept_more most n (byte_of x y) (bytes_in limit most (suc n) text).asks (bytes_in limit most (suc n) text).bytes
-    (kept_bytes limit most (suc n) text h (leb-false most n t)))))
-
-kept_limited : (most : ℕ) (text : List ℕ) → Kept most 0 (limited_by most text).asks (limited_by most text).bytes
-unfolding limited_by
-kept_limited most text =
-    let P : Parsed → Type 0 = λ p. Kept most 0 p.asks p.bytes in
-    let word = stretch is_blank text in
-    pick_all P (is_number word)
-    (pick_by P (ltb 65535 (number 0 word)) (λ t. tt) (λ t. kept_bytes _ most 0 _ (ltb-false 65535 (number 0 word) t) (omega arith))) tt
-
-kept_asked : (most : ℕ) (text : List ℕ) → Kept most 0 (asked_by most text).asks (asked_by most text).bytes
+asked_none : (most : ℕ) (text : List ℕ) → length text < 1 → asked_by most text ≡ ends (Ok None)
 unfolding asked_by
-kept_asked most [] = tt
-kept_asked most (c ∷ text) =
-    let P : Parsed → Type 0 = λ p. Kept most 0 p.asks p.bytes in
-    pick_all P (is_blank c) (kept_asked most text)
-    (pick_all P (eqb c 0x40) (kept_limited most text) (kept_bytes 500 most 0 (c ∷ text) (omega arith) (omega arith)))
+asked_none most [] h = refl
+asked_none most (c ∷ text) h = absurd (omega arith)
 
-pub kept : (most : ℕ) (line : List ℕ) → Kept most 0 (parsed most line).asks (parsed most line).bytes
+asked_limited : (most : ℕ) (text : List ℕ) → Begins text → 1 ≤ length text → get_or text 0 0 ≡ 0x40
+    → asked_by most text ≡ limited_by most (take (length text - 1) (drop 1 text))
+unfolding asked_by
+asked_limited most [] b h e = absurd (omega arith)
+asked_limited most (c ∷ text) b h e = rw (b, eq-eqb c 0x40 e) (ap (limited_by most) (sym (to_end (c ∷ text) 1)))
+
+asked_plain : (most : ℕ) (text : List ℕ) → Begins text → 1 ≤ length text → (get_or text 0 0 ≡ 0x40 → ⊥) → asked_by most text ≡ bytes_in 500 most 0 text
+unfolding asked_by
+asked_plain most [] b h e = absurd (omega arith)
+asked_plain most (c ∷ text) b h e = rw (b, ne_eqb c 0x40 e) refl
+
+module _ (text after old : List ℕ) (is : after ≡ after_blanks text) where
+  skipped : asked_by (length old) text ≡ asked_by (length old) after
+  skipped = skip (asked_by (length old)) (asked_over (length old)) text ∙ ap (asked_by (length old)) (sym is)
+
+  begun_here : Begins after
+  begun_here = rw is (begins text)
+
+  pub asks_nothing : length after < 1 → ReadsLine (asked_by (length old) text) old (Ok None) old
+  asks_nothing h = reads_none _ _ old (skipped ∙ asked_none (length old) after h)
+
+  module _ (r : Asks) (new : List ℕ) (some : 1 ≤ length after) where
+    pub asks_with_limit : get_or after 0 0 ≡ 0x40 → ReadsLine (limited_by (length old) (take (length after - 1) (drop 1 after))) old r new
+        → ReadsLine (asked_by (length old) text) old r new
+    asks_with_limit e s = rw (skipped ∙ asked_limited (length old) after begun_here some e) s
+
+    pub asks_plainly : (get_or after 0 0 ≡ 0x40 → ⊥) → ReadsLine (bytes_in 500 (length old) 0 after) old r new
+        → ReadsLine (asked_by (length old) text) old r new
+    asks_plainly e s = rw (skipped ∙ asked_plain (length old) after begun_here some e) s
+
+pub without_comment : (line old : List ℕ) (end : ℕ) (r : Asks) (new : List ℕ) → end ≡ length (up_to 0x23 line)
+    → ReadsLine (asked_by (length old) (take end line)) old r new → ReadsLine (parsed (length old) line) old r new
 unfolding parsed
-kept most line = kept_asked most (up_to 0x23 line)
+without_comment line old end r new e s = rw (e, take-stretch (λ x. eqb x 0x23) line) at s
 
--- what `parse` ensures of a line that asks a request: limit and bytes are those that the controller takes
-pub request_is : {limit n : ℕ} {old new : List ℕ} (line : List ℕ) (x : Line) → x ≡ Request limit n → ReadsLine (parsed (length old) line) old x new
-    → (limit ≤ 65535) × (n ≤ length old) × (n ≡ length (parsed (length old) line).bytes)
-request_is {old = old} line x e r =
-    let k = subst (λ (y : Line). Kept (length old) 0 y (parsed (length old) line).bytes) (sym r.asks_is ∙ e) (kept (length old) line) in
-    (k.0, k.1, omega (arith, k.2))
+-- ---- a request keeps to the largest limit and to its buffer
+
+abbrev Fits : (most : ℕ) → Asks → Type 0
+Fits most r = IfOk r (λ o. IfSome o (λ a. (a.limit ≤ 65535) × (a.len ≤ most)))
+
+byte-fits : (most : ℕ) (b : Result ℕ Fault) (full : Bool) (rest : Parsed) → (full ≡ false → Fits most rest.asks) → Fits most (with_byte b full rest).asks
+byte-fits most (Err f) full rest h = tt
+byte-fits most (Ok b) true rest h = tt
+byte-fits most (Ok b) false rest h = h refl
+
+bytes-fit : (limit most n : ℕ) (text : List ℕ) → limit ≤ 65535 → n ≤ most → Fits most (bytes_in limit most n text).asks
+unfolding bytes_in
+bytes-fit limit most n [] h l = (h, l)
+bytes-fit limit most n (x ∷ []) h l = pick_all (λ (p : Parsed). Fits most p.asks) (is_blank x) (h, l) tt
+bytes-fit limit most n (x ∷ y ∷ text) h l =
+    pick_all (λ (p : Parsed). Fits most p.asks) (is_blank x) (bytes-fit limit most n (y ∷ text) h l)
+    (byte-fits most (byte_of x y) (leb most n) (bytes_in limit most (suc n) text) (λ t. bytes-fit limit most (suc n) text h (leb-false most n t)))
+
+limit-fits : (most : ℕ) (r : Result ℕ Fault) (rest : List ℕ) → IfOk r (λ n. n ≤ 65535) → Fits most (with_limit r (λ limit. bytes_in limit most 0 rest)).asks
+limit-fits most (Err f) rest h = tt
+limit-fits most (Ok n) rest h = bytes-fit n most 0 rest h (omega arith)
+
+limit_small : (word : List ℕ) → IfOk (limit_of word) (λ n. n ≤ 65535)
+unfolding limit_of
+limit_small word =
+    let P : Result ℕ Fault → Type 0 = λ r. IfOk r (λ n. n ≤ 65535) in
+    pick_all P (is_number word) (pick_by P (ltb 65535 (number 0 word)) (λ t. tt) (λ t. ltb-false 65535 (number 0 word) t)) tt
+
+asked-fits : (most : ℕ) (text : List ℕ) → Fits most (asked_by most text).asks
+unfolding asked_by limited_by
+asked-fits most [] = tt
+asked-fits most (c ∷ text) =
+    let P : Parsed → Type 0 = λ p. Fits most p.asks in
+    let word = word_in text in
+    pick_all P (is_blank c) (asked-fits most text)
+    (pick_all P (eqb c 0x40) (limit-fits most (limit_of word) (drop (length word) text) (limit_small word))
+    (bytes-fit 500 most 0 (c ∷ text) (omega arith) (omega arith)))
+
+pub request-fits : (old new text : List ℕ) (r : Asks) → ReadsLine (asked_by (length old) text) old r new → Fits (length old) r
+request-fits old new text r s = subst (Fits (length old)) (sym s.asks_is) (asked-fits (length old) text)

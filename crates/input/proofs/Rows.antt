@@ -6,7 +6,7 @@ use native.Mathlib.Omega.{arith}
 use native.Mathlib.Numerals.{add-one}
 use native.Mathlib.Nat.{add-zero, mul-suc, mul-zero}
 use lib.ListN.{length, take, set, length-set}
-use lib.Seq.{take-suc-set}
+use lib.Seq.{take-suc-set, take_all}
 use Rattle.definition.specs.Bytes.{u32_at}
 use Rattle.input.specs.Rows.{words_at, rows_at}
 
@@ -30,38 +30,50 @@ rows_more src at width (suc i) =
     let e : at + 4 * width + 4 * width * i ≡ at + 4 * width * suc i = rw (mul-suc (4 * width)) (omega arith) in
     ap (λ (l : List (List ℕ)). words_at src at width ∷ l) (rows_more src (at + 4 * width) width i ∙ rw e)
 
-pub word_filled : (src : List ℕ) (at : ℕ) (row : List ℕ) (j k v : ℕ)
-    → take j row ≡ words_at src at j → j < length row → v ≡ u32_at src (at + 4 * j) → k ≡ j + 1 → take k (set row j v) ≡ words_at src at k
-word_filled src at = filled (words_at src at) (λ j. u32_at src (at + 4 * j)) (words_more src at)
-
-pub no_words : (src : List ℕ) (at : ℕ) → [] ≡ words_at src at 0
-unfolding words_at
-no_words src at = refl
-
-pub to_the_end : {A : Type 0} (f : ℕ → List A) (xs : List A) (i n : ℕ) → take i xs ≡ f i → i ≤ n → n ≤ i → take n xs ≡ f n
+to_the_end : {A : Type 0} (f : ℕ → List A) (xs : List A) (i n : ℕ) → take i xs ≡ f i → i ≤ n → n ≤ i → take n xs ≡ f n
 to_the_end f xs i n e h l = let m : i ≡ n = omega arith in rw m at e
+
+-- ---- a row: i of its words are read
+
+pub record WordsRead (src : List ℕ) (at width : ℕ) (row : List ℕ) (i : ℕ) : Type 0 where
+  pub long : length row ≡ width
+  pub read : take i row ≡ words_at src at i
+
+pub words_start : (src : List ℕ) (at width : ℕ) (row : List ℕ) → length row ≡ width → WordsRead src at width row 0
+unfolding words_at
+words_start src at width row e = record { long = e; read = refl }
+
+module _ (src : List ℕ) (at width : ℕ) (row : List ℕ) (i : ℕ) (so_far : WordsRead src at width row i) where
+  pub one_word : (word : ℕ) → i < width → word ≡ u32_at src (at + 4 * i) → WordsRead src at width (set row i word) (i + 1)
+  one_word word h e = record {
+    long = length-set row i word ∙ so_far.long;
+    read = filled (words_at src at) (λ k. u32_at src (at + 4 * k)) (words_more src at) row i (i + 1) word so_far.read (omega (arith, so_far.long)) e refl;
+  }
+
+  pub all_words : i ≤ width → width ≤ i → row ≡ words_at src at width
+  all_words h l =
+      sym (take_all width row (omega (arith, so_far.long))) ∙ to_the_end (words_at src at) row i width so_far.read h l
 
 -- ---- a table: i of its n rows are read, and there is room for `most`
 
-abbrev pub RowsRead : (src : List ℕ) (at width most n : ℕ) (rows : List (List ℕ)) (i : ℕ) → Type 0
-RowsRead src at width most n rows i = (i ≤ n) × (length rows ≡ most) × (take i rows ≡ rows_at src at width i)
+pub record RowsRead (src : List ℕ) (at width most n : ℕ) (rows : List (List ℕ)) (i : ℕ) : Type 0 where
+  pub long : length rows ≡ most
+  pub read : take i rows ≡ rows_at src at width i
 
 pub rows_start : (src : List ℕ) (at width most n : ℕ) (rows : List (List ℕ)) → length rows ≡ most → RowsRead src at width most n rows 0
 unfolding rows_at
-rows_start src at width most n rows e = (omega arith, e, refl)
+rows_start src at width most n rows e = record { long = e; read = refl }
 
 module _ (src : List ℕ) (at width most n : ℕ) (rows : List (List ℕ)) (i : ℕ) (so_far : RowsRead src at width most n rows i) where
   pub one_row : (row : List ℕ) → i < n → n ≤ most → row ≡ words_at src (at + 4 * width * i) width
       → RowsRead src at width most n (set rows i row) (i + 1)
-  one_row row h l e =
-      let long : length rows ≡ most = so_far.1 in (
-        omega arith,
-        simp length-set long,
-        filled (rows_at src at width) (λ k. words_at src (at + 4 * width * k) width) (rows_more src at width) rows i (i + 1) row
-            so_far.2 (omega arith) e refl,
-      )
+  one_row row h l e = record {
+    long = length-set rows i row ∙ so_far.long;
+    read = filled (rows_at src at width) (λ k. words_at src (at + 4 * width * k) width) (rows_more src at width) rows i (i + 1) row
+        so_far.read (omega (arith, so_far.long)) e refl;
+  }
 
-  pub all-rows : n ≤ i → (most ≡ length rows) × (take n rows ≡ rows_at src at width n)
-  all-rows h = (sym so_far.1, to_the_end (rows_at src at width) rows i n so_far.2 so_far.0 h)
+  pub all-rows : i ≤ n → n ≤ i → (most ≡ length rows) × (take n rows ≡ rows_at src at width n)
+  all-rows h l = (sym so_far.long, to_the_end (rows_at src at width) rows i n so_far.read h l)
 
-pub ruleset row_turns = (rows_start, one_row)
+pub ruleset turns = (words_start, one_word, all_words, rows_start, one_row, all-rows)

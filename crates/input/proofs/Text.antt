@@ -1,82 +1,64 @@
--- The bytes before the first that passes a test: the loop that looks for it, and the part of the text that they are; and the loop that moves
--- a part of a buffer to its start. Assumes nothing.
+-- The elements before the first that passes a test: their number, and the part of the text that they are; and the text behind a read.
+-- Assumes nothing.
 use mathlib.Core.Path.{◌≡◌, refl, sym, ap, ◌∙◌}
 use mathlib.Core.Logic.{◌≢◌}
-use mathlib.Core.Bool.{Bool, true, false}
+use mathlib.Core.Bool.{Bool}
 use mathlib.Core.List.{List, [], ◌∷◌, ◌++◌, append_assoc}
 use Prim.Native.Nat.{ℕ, suc, ◌+◌, ◌-◌, ◌<◌, ◌≤◌}
 use native.Mathlib.Omega.{arith}
-use native.Mathlib.Numerals.{add-one}
-use native.Mathlib.Nat.{zero-add, add_comm, sub_self}
-use lib.ListN.{length, get_or, take, drop, set, length-append, length-drop, drop_of_length-le}
+use native.Mathlib.Nat.{zero-add, add-zero}
+use lib.ListN.{length, get_or, take, drop, set, length-append, length-drop}
 use lib.Dec.{ltb, eqb}
-use borrow.Author.Tests.{ne_eqb}
-use lib.Seq.{take_at, get_or-set_same, drop-cons, get_or-drop, length-take-le, drop-paste, paste, paste-zero, paste-suc}
+use borrow.Author.Tests.{ne_eqb, lt-ltb, le-ltb, ltb-true, ltb-false}
+use Rattle.std.specs.Prelude.{Option, Some, None, unwrap_or, IfSome}
+use Rattle.laws.specs.Scan.{scan}
+use Rattle.laws.specs.Pick.{pick}
+use lib.Seq.{take_at, get_or-set_same, length-take-le, paste}
 use Rattle.laws.specs.Put.{put}
 use Rattle.laws.proofs.Chain.{by_test, pick_all}
 use Rattle.laws.proofs.Put.{set-put}
 use Rattle.input.specs.Text.{end_after, left_after, More}
 use Rattle.laws.specs.Tests.{stretch}
 
-pub stretch-short : (p : ℕ → Bool) (l : List ℕ) → length (stretch p l) ≤ length l
+pub stretch-short : {A : Type 0} (p : A → Bool) (l : List A) → length (stretch p l) ≤ length l
 unfolding stretch
 stretch-short p [] = omega arith
 stretch-short p (x ∷ l) = by_test (p x) (λ t. rw t (omega arith)) (λ t. rw t (omega (arith, stretch-short p l)))
 
--- where it is found from `from` on: none of those from there to i passed
-module _ (p : ℕ → Bool) (xs : List ℕ) (from i : ℕ) (here : from + length (stretch p (drop from xs)) ≡ i + length (stretch p (drop i xs))) where
-  pub stretch_next : {r : Bool} {j : ℕ} → i < length xs → r ≡ p (get_or xs i 0) → r ≡ false → j ≡ i + 1
-      → from + length (stretch p (drop from xs)) ≡ j + length (stretch p (drop j xs))
-  unfolding stretch
-  stretch_next h e n t = rw (t, add-one) (omega (arith, rw (drop-cons xs i 0, ← e, n) at here))
+-- their number is the place of that element, or the length where there is none
+scan_at : {A : Type 0} (p : A → Bool) (i : ℕ) (xs : List A)
+    → scan p Some None i xs ≡ pick (ltb (length (stretch p xs)) (length xs)) (Some (i + length (stretch p xs))) None
+unfolding scan stretch
+scan_at p i [] = refl
+scan_at p i (x ∷ xs) =
+    by_test (p x) (λ t. rw (t, lt-ltb 0 (suc (length xs)) (omega arith), add-zero) refl)
+    (λ t. let n = length (stretch p xs) in
+    let m = length xs in
+    let e : i + suc n ≡ suc i + n = omega arith in
+    rw t (scan_at p (suc i) xs ∙ by_test (ltb n m)
+    (λ u. rw (u, lt-ltb (suc n) (suc m) (omega (arith, ltb-true n m u)), e) refl)
+    (λ u. rw (u, le-ltb (suc n) (suc m) (omega (arith, ltb-false n m u))) refl)))
 
-  pub stretch_found : {r : Bool} → i < length xs → r ≡ p (get_or xs i 0) → r ≡ true → i ≡ from + length (stretch p (drop from xs))
-  unfolding stretch
-  stretch_found h e y = omega (arith, rw (drop-cons xs i 0, ← e, y) at here)
+module _ {A : Type 0} (p : A → Bool) (xs : List A) (r : Option ℕ) (is : r ≡ scan p Some None 0 xs) where
+  pub place_is : r ≡ pick (ltb (length (stretch p xs)) (length xs)) (Some (length (stretch p xs))) None
+  place_is = is ∙ scan_at p 0 xs ∙ ap (λ (k : ℕ). pick (ltb (length (stretch p xs)) (length xs)) (Some k) None) (zero-add (length (stretch p xs)))
 
-  pub stretch_end : length xs ≤ i → i ≡ from + length (stretch p (drop from xs))
-  unfolding stretch
-  stretch_end h = omega (arith, rw (drop_of_length-le xs h) at here)
+pub place_or_end : {A : Type 0} (p : A → Bool) (xs : List A) (r : Option ℕ)
+    → r ≡ pick (ltb (length (stretch p xs)) (length xs)) (Some (length (stretch p xs))) None → unwrap_or r (length xs) ≡ length (stretch p xs)
+place_or_end p xs r e =
+    by_test (ltb (length (stretch p xs)) (length xs)) (λ t. rw (e, t) refl)
+    (λ t. rw (e, t) (omega (arith, ltb-false (length (stretch p xs)) (length xs) t, stretch-short p xs)))
 
 -- they are the front of the text
-pub take-stretch : (p : ℕ → Bool) (l : List ℕ) → take (length (stretch p l)) l ≡ stretch p l
+pub take-stretch : {A : Type 0} (p : A → Bool) (l : List A) → take (length (stretch p l)) l ≡ stretch p l
 unfolding stretch
 take-stretch p [] = refl
-take-stretch p (x ∷ l) = by_test (p x) (λ t. rw t) (λ t. rw t (ap (λ (k : List ℕ). x ∷ k) (take-stretch p l)))
+take-stretch p (x ∷ l) = by_test (p x) (λ t. rw t) (λ t. rw t (ap (λ k. x ∷ k) (take-stretch p l)))
 
--- ---- a part moved to the start: what is still to be moved is as it was
-
-module _ (xs : List ℕ) (from j : ℕ) (h : from + j < length xs) where
-  pub still_there : get_or (paste xs 0 (drop from xs) j) (from + j) 0 ≡ get_or (drop from xs) j 0
-  still_there =
-      let d : drop j (paste xs 0 (drop from xs) j) ≡ drop j xs =
-      ap (λ (k : ℕ). drop k (paste xs 0 (drop from xs) j)) (sym (zero-add j))
-      ∙ drop-paste xs 0 (drop from xs) j (omega arith) (rw length-drop (omega arith)) ∙ ap (λ (k : ℕ). drop k xs) (zero-add j) in
-      ap (λ (k : ℕ). get_or (paste xs 0 (drop from xs) j) k 0) (add_comm from j)
-      ∙ sym (get_or-drop j (paste xs 0 (drop from xs) j) from 0) ∙ ap (λ (l : List ℕ). get_or l from 0) d ∙ get_or-drop j xs from 0
-      ∙ ap (λ (k : ℕ). get_or xs k 0) (add_comm j from) ∙ sym (get_or-drop from xs j 0)
-
-pub moved_more : (xs ys : List ℕ) (from i k : ℕ) → ys ≡ paste xs 0 (drop from xs) (i - from) → from ≤ i → i < length xs → k ≡ i + 1
-    → set ys (i - from) (get_or ys i 0) ≡ paste xs 0 (drop from xs) (k - from)
-moved_more xs ys from i k e h l t =
-    let a : i ≡ from + (i - from) = omega arith in
-    let b : k - from ≡ suc (i - from) = omega arith in
-    let m : from + (i - from) < length xs = omega arith in
-    let v : get_or ys i 0 ≡ get_or (drop from xs) (i - from) 0 =
-    ap (λ (z : List ℕ). get_or z i 0) e ∙ ap (λ (n : ℕ). get_or (paste xs 0 (drop from xs) (i - from)) n 0) a ∙ still_there xs from (i - from) m in
-    ap (λ (w : ℕ). set ys (i - from) w) v ∙ ap (λ (z : List ℕ). set z (i - from) (get_or (drop from xs) (i - from) 0)) e
-    ∙ ap (λ (n : ℕ). set (paste xs 0 (drop from xs) (i - from)) n (get_or (drop from xs) (i - from) 0)) (sym (zero-add (i - from)))
-    ∙ paste-suc xs 0 (drop from xs) (i - from) 0 (omega arith) (rw length-drop (omega arith)) ∙ ap (paste xs 0 (drop from xs)) (sym b)
-
-pub moved_all : (xs ys : List ℕ) (from i end : ℕ) → ys ≡ paste xs 0 (drop from xs) (i - from) → from ≤ end → end ≤ length xs → i ≤ end → end ≤ i
-    → ys ≡ put xs 0 (take (end - from) (drop from xs))
+-- a part moved to the start
+pub moved_is_put : (xs : List ℕ) (at end : ℕ) → at ≤ end → end ≤ length xs → paste xs 0 (drop at xs) (end - at) ≡ put xs 0 (take (end - at) (drop at xs))
 unfolding put
-moved_all xs ys from i end e h l a b =
-    let n : i - from ≡ end - from = omega arith in
-    e ∙ ap (paste xs 0 (drop from xs)) n ∙ rw (length-take-le (end - from) (drop from xs) (rw length-drop (omega arith)))
-
-pub moved_none : (xs : List ℕ) (from : ℕ) → xs ≡ paste xs 0 (drop from xs) (from - from)
-moved_none xs from = rw (sub_self from) (paste-zero xs 0 (drop from xs))
+moved_is_put xs at end h l = rw (length-take-le (end - at) (drop at xs) (rw length-drop (omega arith)))
 
 -- ---- a read behind what is there, and the newline that may be written then
 
@@ -101,11 +83,13 @@ module _ (old mid new : List ℕ) (at n : ℕ) (inside : at < length old) (front
       let stored : put mid at (10 ∷ []) ≡ set mid at 10 = sym (set-put mid at 10 (omega arith)) in
       rw (left, z, ne_eqb at 0 no, stored) (get_or-set_same mid at 10 0 (omega arith))
 
-pub end_inside : (at n most : ℕ) → at < most → at + n ≤ most → end_after at n ≤ most
-end_inside at n most h l = pick_all (λ (k : ℕ). k ≤ most) (ltb 0 n) l (pick_all (λ (k : ℕ). k ≤ most) (eqb at 0) (omega arith) (omega arith))
+pub end_inside : (at n most : ℕ) → at < most → at + n ≤ most → IfSome (end_after at n) (λ (end : ℕ). end ≤ most)
+end_inside at n most h l =
+    let P : Option ℕ → Type 0 = λ o. IfSome o (λ (end : ℕ). end ≤ most) in
+    pick_all P (ltb 0 n) l (pick_all P (eqb at 0) tt (omega arith))
 
 -- the same of a buffer whose end was lent to a read, as it comes back: `take` to the end, and nothing after it
-pub after_read : (old came new : List ℕ) (at n r : ℕ) → at < length old → at + n ≤ length old → length came ≡ length old - at
+pub after_read : (old came new : List ℕ) (at n : ℕ) (r : Option ℕ) → at < length old → at + n ≤ length old → length came ≡ length old - at
     → length new ≡ length old → r ≡ end_after at n → new ≡ left_after at n (take at old ++ (came ++ drop (length old - at) (drop at old)))
     → More at old new r
 after_read old came new at n r h l k s e left =

@@ -1,6 +1,6 @@
 -- Document 02, P13: the requests of masked writes in a row by their bytes, and two of them joined into one request.
-use Rattle.std.specs.Prelude.{◌≡◌, Bool, true, List, ◌++◌, ℕ, ◌+◌, ◌*◌, eqb, length, get_or, take}
-use Rattle.laws.specs.Pick.{◌&◌}
+use Rattle.std.specs.Prelude.{◌≡◌, Bool, true, List, ◌++◌, ℕ, ◌+◌, ◌*◌, eqb, length, get_or, take, Option, Some, None}
+use Rattle.laws.specs.Pick.{pick, ◌&◌}
 use Rattle.laws.specs.Put.{put}
 use Rattle.laws.specs.Zip.{agree}
 use Rattle.definition.specs.Bytes.{u16_at, part}
@@ -18,6 +18,10 @@ mask_size s = u16_at s (2 + 2 * get_or s 1 0)
 -- 4E with as many mask bytes as its size asks, and nothing behind them
 unfoldable pub is_masked_write : List ℕ → Bool
 is_masked_write s = eqb (get_or s 0 0) 0x4E & eqb (length s) (mask_start s + 2 * mask_size s)
+
+-- where its masks begin
+abbrev pub found_masks : List ℕ → Option ℕ
+found_masks s = pick (is_masked_write s) (Some (mask_start s)) None
 
 -- the masks that it carries
 abbrev pub masks_at : List ℕ → (at size : ℕ) → Masks

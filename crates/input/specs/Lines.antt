@@ -1,20 +1,27 @@
 -- What a line of input asks: an optional `@LIMIT`, then the request's bytes, two hex digits each; `#` starts a comment. Characters are ASCII.
-use Rattle.std.specs.Prelude.{◌≡◌, Bool, true, false, not, List, [], ◌∷◌, ◌++◌, ℕ, suc, ◌+◌, ◌-◌, ◌*◌, ◌≤◌, ◌<◌, ltb, leb, eqb, length, drop}
-use Rattle.laws.specs.Pick.{pick, both, either}
+use Rattle.std.specs.Prelude.{◌≡◌, Bool, List, [], ◌∷◌, ◌++◌, ℕ, suc, ◌+◌, ◌-◌, ◌*◌, ltb, leb, eqb, length, drop}
+use Rattle.std.specs.Prelude.{Option, Some, None, Result, Ok, Err}
+use Rattle.laws.specs.Pick.{pick, both, either, is_some}
 use Rattle.laws.specs.Put.{put}
 use Rattle.laws.specs.Tests.{every, stretch}
 use Rattle.input.specs.Text.{up_to}
 use Rattle.input.specs.declared.hex.Fault.{Fault}
 use Rattle.input.specs.declared.hex.Fault.TheVariants.{Digit, Odd, NoNumber, OverLimit, TooLong}
-use Rattle.input.specs.declared.hex.Line.{Line}
-use Rattle.input.specs.declared.hex.Line.TheVariants.{Empty, Request, Wrong}
+use Rattle.input.specs.declared.hex.Request.{Request}
+
+-- nothing, a request's limit and number of bytes, or what keeps the line from being a request
+abbrev pub Asks : Type 0
+Asks = Result (Option Request) Fault
+
+abbrev pub asks_for : (limit n : ℕ) → Asks
+asks_for limit n = Ok (Some (record { limit = limit; len = n }))
 
 -- what a line asks, and the bytes that were read of it: all of a request, those before the fault of a wrong line
 pub record Parsed : Type 0 where
-  pub asks : Line
+  pub asks : Asks
   pub bytes : List ℕ
 
-abbrev pub ends : Line → Parsed
+abbrev pub ends : Asks → Parsed
 ends x = record { asks = x; bytes = [] }
 
 abbrev pub behind : List ℕ → Parsed → Parsed
@@ -32,9 +39,20 @@ is_blank c = either (eqb c 0x09) (either (eqb c 0x0D) (eqb c 0x20))
 abbrev pub is_decimal : ℕ → Bool
 is_decimal c = between 0x30 0x39 c
 
--- a hex digit's value, 16 for any other character: 0 to 9, A to F, a to f
-unfoldable pub digit_of : ℕ → ℕ
-digit_of c = pick (between 0x30 0x39 c) (c - 0x30) (pick (between 0x41 0x46 c) (c - 0x41 + 10) (pick (between 0x61 0x66 c) (c - 0x61 + 10) 16))
+-- a hex digit's value: 0 to 9, A to F, a to f
+unfoldable pub digit_of : ℕ → Option ℕ
+digit_of c =
+    pick (between 0x30 0x39 c) (Some (c - 0x30))
+    (pick (between 0x41 0x46 c) (Some (c - 0x41 + 10)) (pick (between 0x61 0x66 c) (Some (c - 0x61 + 10)) None))
+
+-- the text up to its first blank
+abbrev pub word_in : List ℕ → List ℕ
+word_in text = stretch is_blank text
+
+-- the text from the first character on that is no blank
+unfoldable pub after_blanks : List ℕ → List ℕ
+after_blanks [] = []
+after_blanks (c ∷ text) = pick (is_blank c) (after_blanks text) (c ∷ text)
 
 -- ---- the limit: one decimal digit or more, and their number
 
@@ -43,43 +61,50 @@ is_number word = both (every is_decimal word) (ltb 0 (length word))
 
 unfoldable pub number : (so_far : ℕ) → List ℕ → ℕ
 number n [] = n
-number n (c ∷ word) = number (10 * n + digit_of c) word
+number n (c ∷ word) = number (10 * n + (c - 0x30)) word
+
+unfoldable pub limit_of : List ℕ → Result ℕ Fault
+limit_of word = pick (is_number word) (pick (ltb 65535 (number 0 word)) (Err OverLimit) (Ok (number 0 word))) (Err NoNumber)
 
 -- ---- the bytes
 
--- the byte of two hex digits; 256 where one is no hex digit, 257 where the second is missing
-unfoldable pub byte_of : (high low : ℕ) → ℕ
-byte_of high low =
-    pick (ltb 15 (digit_of high)) 256
-    (pick (is_blank low) 257
-    (pick (ltb 15 (digit_of low)) 256 (16 * digit_of high + digit_of low)))
+abbrev pub with_digit : Option ℕ → (ℕ → Result ℕ Fault) → Result ℕ Fault
+with_digit None f = Err Digit
+with_digit (Some d) f = f d
 
-abbrev pub fault_of : ℕ → Fault
-fault_of b = pick (eqb b 256) Digit Odd
+-- the byte of two hex digits, unless one is no hex digit, or the second is missing
+unfoldable pub byte_of : (high low : ℕ) → Result ℕ Fault
+byte_of high low = with_digit (digit_of high) (λ h. pick (is_blank low) (Err Odd) (with_digit (digit_of low) (λ l. Ok (16 * h + l))))
 
--- a request of n bytes so far goes on with this text; it has room for `most` of them. A blank stands for the second digit behind the end
+-- what is wrong with the last character, where a byte ought to stand
+abbrev pub lone_fault : ℕ → Fault
+lone_fault c = pick (is_some (digit_of c)) Odd Digit
+
+-- a byte that there is room for, and what follows it
+abbrev pub with_byte : Result ℕ Fault → (full : Bool) → Parsed → Parsed
+with_byte (Err f) full rest = ends (Err f)
+with_byte (Ok b) full rest = pick full (ends (Err TooLong)) (behind (b ∷ []) rest)
+
+-- a request of n bytes so far goes on with this text; it has room for `most` of them
 unfoldable pub bytes_in : (limit most n : ℕ) → List ℕ → Parsed
-bytes_in limit most n [] = ends (Request limit n)
-bytes_in limit most n (high ∷ []) = pick (is_blank high) (ends (Request limit n)) (ends (Wrong (fault_of (byte_of high 0x20))))
+bytes_in limit most n [] = ends (asks_for limit n)
+bytes_in limit most n (high ∷ []) = pick (is_blank high) (ends (asks_for limit n)) (ends (Err (lone_fault high)))
 bytes_in limit most n (high ∷ low ∷ text) =
-    pick (is_blank high) (bytes_in limit most n (low ∷ text))
-    (pick (ltb 255 (byte_of high low)) (ends (Wrong (fault_of (byte_of high low))))
-    (pick (leb most n) (ends (Wrong TooLong))
-    (behind (byte_of high low ∷ []) (bytes_in limit most (suc n) text))))
+    pick (is_blank high) (bytes_in limit most n (low ∷ text)) (with_byte (byte_of high low) (leb most n) (bytes_in limit most (suc n) text))
 
 -- ---- the line
 
+abbrev pub with_limit : Result ℕ Fault → (ℕ → Parsed) → Parsed
+with_limit (Err f) g = ends (Err f)
+with_limit (Ok limit) g = g limit
+
 -- behind an `@`: the limit up to the next blank, and then the bytes
 unfoldable pub limited_by : (most : ℕ) → List ℕ → Parsed
-limited_by most text =
-    let word = stretch is_blank text in
-    pick (is_number word)
-    (pick (ltb 65535 (number 0 word)) (ends (Wrong OverLimit)) (bytes_in (number 0 word) most 0 (drop (length word) text)))
-    (ends (Wrong NoNumber))
+limited_by most text = let word = word_in text in with_limit (limit_of word) (λ limit. bytes_in limit most 0 (drop (length word) text))
 
 -- a line without its comment; the usual limit is 500
 unfoldable pub asked_by : (most : ℕ) → List ℕ → Parsed
-asked_by most [] = ends Empty
+asked_by most [] = ends (Ok None)
 asked_by most (c ∷ text) =
     pick (is_blank c) (asked_by most text) (pick (eqb c 0x40) (limited_by most text) (bytes_in 500 most 0 (c ∷ text)))
 
@@ -90,20 +115,6 @@ parsed most line = asked_by most (up_to 0x23 line)
 -- ---- what the code leaves
 
 -- the line asks this, and the bytes that were read stand at the buffer's start
-pub record ReadsLine (p : Parsed) (old : List ℕ) (r : Line) (new : List ℕ) : Type 0 where
+pub record ReadsLine (p : Parsed) (old : List ℕ) (r : Asks) (new : List ℕ) : Type 0 where
   pub asks_is : r ≡ p.asks
   pub buffer_is : new ≡ put old 0 p.bytes
-
--- where a scan stops: at a blank, or at what is none
-abbrev pub is_stop : (at-blank : Bool) → ℕ → Bool
-is_stop true c = is_blank c
-is_stop false c = not (is_blank c)
-
--- a number as the code counts it: exact up to 65,535, and above that any number above it
-pub record Capped (exact r : ℕ) : Type 0 where
-  pub small : exact ≤ 65535 → r ≡ exact
-  pub large : 65535 < exact → 65535 < r
-
--- one digit more
-abbrev pub tenfold_of : ℕ → ℕ → ℕ
-tenfold_of n c = pick (ltb 6553 n) 65536 (10 * n + digit_of c)

@@ -1,6 +1,8 @@
 -- The words behind the program's name: `--help`, `--numbers`, `--tables`, `--join`, and one that names the table image. Characters are ASCII.
-use Rattle.std.specs.Prelude.{Bool, true, false, List, [], ◌∷◌, ℕ, eqb}
-use Rattle.laws.specs.Pick.{pick}
+use Rattle.std.specs.Prelude.{Bool, true, false, List, [], ◌∷◌, ℕ, eqb, Option, Some, None}
+use Rattle.std.specs.Option.{option_or}
+use denote.Ref.{Bor}
+use Rattle.laws.specs.Pick.{pick, is_some}
 use Rattle.laws.specs.Zip.{agree}
 use Rattle.input.specs.declared.options.Argument.{Argument}
 use Rattle.input.specs.declared.options.Argument.TheVariants.{Help, Numbers, Tables, Join, File, Unknown, TooLong}
@@ -19,23 +21,21 @@ option_of text =
     (pick (agree eqb text (0x2D ∷ 0x2D ∷ 0x6A ∷ 0x6F ∷ 0x69 ∷ 0x6E ∷ [])) Join Unknown)))
 
 -- a word; one that is too long is not all there
-unfoldable pub word_of : List ℕ → (too_long : Bool) → Argument
-word_of text too_long = pick too_long TooLong (pick (is_dashed text) (option_of text) File)
+unfoldable pub word_of : Option (Bor (List ℕ)) → Argument
+word_of None = TooLong
+word_of (Some text) = pick (is_dashed text.now) (option_of text.now) File
 
 -- ---- what all words ask for
 
--- words are counted from 1, so 0 is none
-abbrev pub first_of : (earlier i : ℕ) → ℕ
-first_of earlier i = pick (eqb earlier 0) i earlier
-
+-- the first word that is not taken is said
 abbrev pub refused_in : Options → ℕ → Options
-refused_in o i = record { help = o.help; numbers = o.numbers; tables = o.tables; join = o.join; file = o.file; wrong = first_of o.wrong i }
+refused_in o i = record { help = o.help; numbers = o.numbers; tables = o.tables; join = o.join; file = o.file; wrong = option_or o.wrong (Some i) }
 
 -- the first word that is no option is the file, a second one is refused
 abbrev pub file_in : Options → ℕ → Options
 file_in o i =
-    pick (eqb o.file 0)
-    (record { help = o.help; numbers = o.numbers; tables = o.tables; join = o.join; file = i; wrong = o.wrong }) (refused_in o i)
+    pick (is_some o.file) (refused_in o i)
+    (record { help = o.help; numbers = o.numbers; tables = o.tables; join = o.join; file = Some i; wrong = o.wrong })
 
 abbrev pub taken_by : Options → (i : ℕ) → Argument → Options
 taken_by o i Help = record { help = true; numbers = o.numbers; tables = o.tables; join = o.join; file = o.file; wrong = o.wrong }

@@ -1,46 +1,39 @@
 // The requests of masked writes in a row, joined into one request.
-ghost use Rattle.std.specs.Prelude.{◌≡◌, ◌+◌, ◌*◌, ◌≤◌, length};
+ghost use Rattle.std.specs.Prelude.{◌≡◌, ◌+◌, ◌*◌, ◌≤◌, length, IfSome};
 ghost use Rattle.laws.specs.Pick.{pick};
-ghost use Rattle.input.specs.Clicks.{mask_start, is_masked_write, joins, joined_request};
+ghost use Rattle.input.specs.Clicks.{mask_start, is_masked_write, found_masks, joins, joined_request};
 
-use cip::numbers;
+use cip::codes::WRITE_MASKED;
 
-/// The service of a masked write.
-const MASKED_WRITE: u8 = 0x4E;
-
-/// Where the masks begin: behind service, words, path and size.
-fn mask_start(words: u8) -> usize
-    ensures { result ≡ 4 + 2 * words }
+/// Where a masked write's masks begin: behind service, words, path and size. None of a request that is none, or that has not as many mask bytes as
+/// it says.
+fn masks_at(s: &[u8]) -> Option<usize>
+    ensures found { result ≡ found_masks s.now }
+    ensures inside { IfSome result (λ at. at ≤ length s.now) }
 {
-    4 + 2 * numbers::wide(numbers::word8(words))
-}
-
-/// Where a masked write's masks begin; 0 of a request that is none, or that has not as many mask bytes as it says.
-fn masks_at(s: &[u8]) -> usize
-    ensures { (result ≡ pick (is_masked_write s.now) (mask_start s.now) 0) × (result ≤ length s.now) }
-{
-    if s.len() < 4 {
-        return 0;
+    let [service, words, ..] = s else {
+        return None;
+    };
+    if *service != WRITE_MASKED {
+        return None;
     }
-    if s[0] != MASKED_WRITE {
-        return 0;
-    }
-    let at = mask_start(s[1]);
+    let at = 4 + 2 * usize::from(*words);
     if s.len() < at {
-        return 0;
+        return None;
     }
-    let size = numbers::wide16(cip::u16_at(s, at - 2));
-    if s.len() != at + 2 * size {
-        return 0;
+    let size = usize::from(cip::u16_at(s, at - 2));
+    if s.len() == at + 2 * size {
+        Some(at)
+    } else {
+        None
     }
-    at
 }
 
 /// Whether a request is a masked write with masks of the size that it names, and nothing behind them.
 pub fn is_masked_write(s: &[u8]) -> bool
     ensures { result ≡ is_masked_write s.now }
 {
-    masks_at(s) != 0
+    masks_at(s).is_some()
 }
 
 /// Joins the next request to a row of masked writes, in the place of the row's request: both have the same path and size.
@@ -50,14 +43,13 @@ pub fn join(row: &mut [u8], next: &[u8]) -> bool
         × (row.new ≡ pick (joins row.old next.now) (joined_request row.old next.now)
         row.old) }
 {
-    let at = masks_at(row);
-    if at == 0 {
+    let Some(at) = masks_at(row) else {
         return false;
-    }
+    };
     if next.len() != row.len() {
         return false;
     }
-    if !crate::options::same(&row[..at], &next[..at]) {
+    if row[..at] != next[..at] {
         return false;
     }
     let ands = at + (next.len() - at) / 2;

@@ -1,14 +1,16 @@
 // A line of input: an optional `@LIMIT`, then the request's bytes as two hex digits each; `#` starts a comment.
-ghost use Rattle.std.specs.Prelude.{◌≡◌, ◌+◌, ◌≤◌, length, drop};
-ghost use Rattle.laws.specs.Tests.{stretch};
-ghost use Rattle.input.specs.Lines.{is_blank, is_decimal, digit_of, is_number, number, byte_of, fault_of, bytes_in, limited_by, asked_by, parsed};
-ghost use Rattle.input.specs.Lines.{is_stop, tenfold_of, Capped, ReadsLine};
+ghost use Rattle.std.specs.Prelude.{◌≡◌, ◌≤◌, length, drop, IfOk, IfSome};
+ghost use Rattle.input.specs.Lines.{is_blank, digit_of, byte_of, lone_fault, after_blanks, word_in, is_number, limit_of};
+ghost use Rattle.input.specs.Lines.{bytes_in, limited_by, asked_by, parsed, ReadsLine};
+
+use std::error::Error;
+use std::fmt;
 
 /// The limit where a line names none.
 const USUAL_LIMIT: usize = 500;
 
 /// What keeps a line from being a request.
-#[derive(Clone, Copy)]
+#[derive(Clone, Copy, Debug, PartialEq, Eq)]
 pub enum Fault {
     Digit,
     Odd,
@@ -17,65 +19,89 @@ pub enum Fault {
     TooLong,
 }
 
-/// What a line asks: nothing, a request (its limit, and how many bytes it has), or it is wrong.
-#[derive(Clone, Copy)]
-pub enum Line {
-    Empty,
-    Request(usize, usize),
-    Wrong(Fault),
+impl fmt::Display for Fault {
+    fn fmt<W: fmt::Write>(&self, f: &mut fmt::Formatter<W>) -> fmt::Result {
+        f.pad(match self {
+            Fault::Digit => "not a hex digit",
+            Fault::Odd => "an odd number of hex digits",
+            Fault::NoNumber => "the limit is not a number",
+            Fault::OverLimit => "the limit is over 65535",
+            Fault::TooLong => "the request is longer than 65535 bytes",
+        })
+    }
+}
+
+impl Error for Fault {}
+
+/// A request that a line asks: its limit, and how many bytes it has.
+#[derive(Clone, Copy, Debug, PartialEq, Eq)]
+pub struct Request {
+    pub limit: usize,
+    pub len: usize,
 }
 
 fn is_blank(c: u8) -> bool
     ensures { result ≡ is_blank c }
 {
-    match c {
-        b' ' | b'\t' | b'\r' => true,
-        _ => false,
+    matches!(c, b' ' | b'\t' | b'\r')
+}
+
+/// A hex digit's value.
+fn digit(c: u8) -> Option<u32>
+    ensures { result ≡ digit_of c }
+{
+    char::from(c).to_digit(16)
+}
+
+/// The byte of two hex digits.
+fn byte_of(high: u8, low: u8) -> Result<u8, Fault>
+    ensures { result ≡ byte_of high low }
+{
+    let h = digit(high).ok_or(Fault::Digit)?;
+    if is_blank(low) {
+        return Err(Fault::Odd);
+    }
+    let l = digit(low).ok_or(Fault::Digit)?;
+    Ok((16 * h + l) as u8)
+}
+
+/// What is wrong with a character that ends the line in the place of a byte.
+fn lone_fault(c: u8) -> Fault
+    ensures { result ≡ lone_fault c }
+{
+    if digit(c).is_some() {
+        Fault::Odd
+    } else {
+        Fault::Digit
     }
 }
 
-/// A hex digit's value, 16 for any other character.
-fn digit(c: u8) -> u8
-    ensures { (result ≤ 16) × (result ≡ digit_of c) }
+/// The text from the first character on that is no blank.
+fn after_blanks(text: &[u8]) -> &[u8]
+    ensures { result.now ≡ after_blanks text.now }
 {
-    match c {
-        b'0'..=b'9' => c - b'0',
-        b'A'..=b'F' => c - b'A' + 10,
-        b'a'..=b'f' => c - b'a' + 10,
-        _ => 16,
-    }
+    let blanks = text.iter().position(|c| !is_blank(*c));
+    &text[blanks.unwrap_or(text.len())..]
 }
 
-fn is_stop(c: u8, at_blank: bool) -> bool
-    ensures { result ≡ is_stop at_blank c }
+/// The bytes of the text, into the request's buffer.
+fn read_bytes(text: &[u8], limit: usize, request: &mut [u8]) -> Result<Option<Request>, Fault>
+    ensures { ReadsLine (bytes_in limit (length request.old) 0 text.now) request.old result request.new }
 {
-    if at_blank {
-        return is_blank(c);
-    }
-    !is_blank(c)
-}
-
-/// The next blank, or the next character that is none; else the text's end.
-fn scan(text: &[u8], at: usize, at_blank: bool) -> usize
-    requires { at ≤ length text.now }
-    ensures { (at ≤ result) × (result ≤ length text.now) × (result ≡ at + length (stretch (is_stop at_blank) (drop at text.now))) }
-{
-    let mut i = at;
-    while i < text.len() {
-        if is_stop(text[i], at_blank) {
-            return i;
+    let mut rest = after_blanks(text);
+    let mut len = 0;
+    while let [high, low, behind @ ..] = rest {
+        let byte = byte_of(*high, *low)?;
+        if len >= request.len() {
+            return Err(Fault::TooLong);
         }
-        i += 1;
+        request[len] = byte;
+        len += 1;
+        rest = after_blanks(behind);
     }
-    i
-}
-
-fn is_decimal(c: u8) -> bool
-    ensures { result ≡ is_decimal c }
-{
-    match c {
-        b'0'..=b'9' => true,
-        _ => false,
+    match rest {
+        [] => Ok(Some(Request { limit, len })),
+        [high, ..] => Err(lone_fault(*high)),
     }
 }
 
@@ -83,125 +109,55 @@ fn is_decimal(c: u8) -> bool
 fn is_number(word: &[u8]) -> bool
     ensures { result ≡ is_number word.now }
 {
-    let mut i = 0;
-    while i < word.len() {
-        if !is_decimal(word[i]) {
-            return false;
-        }
-        i += 1;
-    }
-    word.len() > 0
+    !word.is_empty() && word.iter().all(u8::is_ascii_digit)
 }
 
-/// A number with one more digit; over 65,535 it is some number over that.
-fn tenfold(n: usize, c: u8) -> usize
-    ensures { result ≡ tenfold_of n c }
+/// The limit that a word of decimal digits is. A sign, which `parse` would take, is no digit.
+fn limit_of(word: &[u8]) -> Result<usize, Fault>
+    ensures { result ≡ limit_of word.now }
 {
-    if n > 6553 {
-        return 65536;
+    if !is_number(word) {
+        return Err(Fault::NoNumber);
     }
-    10 * n + digit(c) as usize
+    let digits = std::str::from_utf8(word).unwrap();
+    match digits.parse::<u16>() {
+        Ok(limit) => Ok(usize::from(limit)),
+        Err(_) => Err(Fault::OverLimit),
+    }
 }
 
-fn decimal(word: &[u8]) -> usize
-    ensures { Capped (number 0 word.now) result }
+/// The text up to its first blank, and what stands from there on.
+fn split_word(text: &[u8]) -> (&[u8], &[u8])
+    ensures { (result.0.now ≡ word_in text.now) × (result.1.now ≡ drop (length (word_in text.now)) text.now) }
 {
-    let mut n = 0;
-    let mut i = 0;
-    while i < word.len() {
-        n = tenfold(n, word[i]);
-        i += 1;
-    }
-    n
-}
-
-/// The byte of two hex digits; 256: one is no hex digit, 257: the second is missing.
-fn pair(high: u8, low: u8) -> u16
-    ensures { result ≡ byte_of high low }
-{
-    let h = digit(high);
-    if h > 15 {
-        return 256;
-    }
-    if is_blank(low) {
-        return 257;
-    }
-    let l = digit(low);
-    if l > 15 {
-        return 256;
-    }
-    16 * (h as u16) + l as u16
-}
-
-fn fault_of(b: u16) -> Fault
-    ensures { result ≡ fault_of b }
-{
-    if b == 256 {
-        return Fault::Digit;
-    }
-    Fault::Odd
-}
-
-/// The bytes of the text from a position on, into the request's buffer.
-fn bytes(text: &[u8], start: usize, limit: usize, request: &mut [u8]) -> Line
-    requires { (start ≤ length text.now) × (limit ≤ 65535) }
-    ensures { ReadsLine (bytes_in limit (length request.old) 0 (drop start text.now)) request.old result
-        request.new }
-{
-    let mut at = scan(text, start, false);
-    let mut n = 0;
-    while at < text.len() {
-        if text.len() - at < 2 {
-            return Line::Wrong(fault_of(pair(text[at], b' ')));
-        }
-        let b = pair(text[at], text[at + 1]);
-        if b > 255 {
-            return Line::Wrong(fault_of(b));
-        }
-        if n >= request.len() {
-            return Line::Wrong(Fault::TooLong);
-        }
-        request[n] = b as u8;
-        n += 1;
-        at = scan(text, at + 2, false);
-    }
-    Line::Request(limit, n)
+    let end = text.iter().position(|c| is_blank(*c));
+    text.split_at(end.unwrap_or(text.len()))
 }
 
 /// The text behind the `@` of a limit.
-fn limited(text: &[u8], at: usize, request: &mut [u8]) -> Line
-    requires { at ≤ length text.now }
-    ensures { ReadsLine (limited_by (length request.old) (drop at text.now)) request.old result request.new }
+fn limited(text: &[u8], request: &mut [u8]) -> Result<Option<Request>, Fault>
+    ensures { ReadsLine (limited_by (length request.old) text.now) request.old result request.new }
 {
-    let end = scan(text, at, true);
-    if !is_number(&text[at..end]) {
-        return Line::Wrong(Fault::NoNumber);
-    }
-    let limit = decimal(&text[at..end]);
-    if limit > 65535 {
-        return Line::Wrong(Fault::OverLimit);
-    }
-    bytes(text, end, limit, request)
+    let (word, rest) = split_word(text);
+    read_bytes(rest, limit_of(word)?, request)
 }
 
 /// The line up to its comment.
-fn asked(text: &[u8], request: &mut [u8]) -> Line
+fn asked(text: &[u8], request: &mut [u8]) -> Result<Option<Request>, Fault>
     ensures { ReadsLine (asked_by (length request.old) text.now) request.old result request.new }
 {
-    let at = scan(text, 0, false);
-    if at >= text.len() {
-        return Line::Empty;
+    match after_blanks(text) {
+        [] => Ok(None),
+        [first, rest @ ..] if *first == b'@' => limited(rest, request),
+        rest => read_bytes(rest, USUAL_LIMIT, request),
     }
-    if text[at] == b'@' {
-        return limited(text, at + 1, request);
-    }
-    bytes(text, at, USUAL_LIMIT, request)
 }
 
-/// Reads a line; a request's bytes are put into the buffer.
-pub fn parse(line: &[u8], request: &mut [u8]) -> Line
-    ensures { ReadsLine (parsed (length request.old) line.now) request.old result request.new }
+/// Reads a line, which may ask nothing; a request's bytes are put into the buffer.
+pub fn parse(line: &[u8], request: &mut [u8]) -> Result<Option<Request>, Fault>
+    ensures reads { ReadsLine (parsed (length request.old) line.now) request.old result request.new }
+    ensures fits { IfOk result (λ o. IfSome o (λ a. (a.limit ≤ 65535) × (a.len ≤ length request.old))) }
 {
-    let end = crate::lines::find(line, 0, b'#');
+    let end = crate::lines::find(line, b'#').unwrap_or(line.len());
     asked(&line[..end], request)
 }

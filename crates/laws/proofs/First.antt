@@ -3,7 +3,7 @@
 use mathlib.Core.Path.{◌≡◌, refl, sym, ◌∙◌, ap}
 use mathlib.Core.Bool.{Bool, true, false}
 use mathlib.Core.List.{List}
-use mathlib.Core.Option.{Option, none, some}
+use Rattle.std.specs.Prelude.{Option, None, Some}
 use Prim.Native.Nat.{ℕ, zero, suc, ◌+◌, ◌-◌, ◌<◌, ◌≤◌}
 use native.Mathlib.Omega.{arith}
 use native.Mathlib.Numerals.{add-one}
@@ -16,13 +16,13 @@ use Rattle.laws.specs.Tests.{every}
 use Rattle.laws.proofs.Chain.{by_test, clash}
 use Rattle.laws.proofs.Tests.{equal_tests, every_at, every_by}
 
-or_none_lem : {A : Type 0} (o p : Option A) → or_else o p ≡ none → (o ≡ none) × (p ≡ none)
-or_none_lem none p e = (refl, e)
-or_none_lem (some a) p e = clash (cc)
+or_none_lem : {A : Type 0} (o p : Option A) → or_else o p ≡ None → (o ≡ None) × (p ≡ None)
+or_none_lem None p e = (refl, e)
+or_none_lem (Some a) p e = clash (cc)
 
 module _ {A : Type 0} (f : ℕ → Option A) where
   -- where there is nothing to say
-  pub first_all : (at n k : ℕ) → first_of f at n ≡ none → at ≤ k → k < at + n → f k ≡ none
+  pub first_all : (at n k : ℕ) → first_of f at n ≡ None → at ≤ k → k < at + n → f k ≡ None
   unfolding first_of
   first_all at zero k e h l = absurd (omega arith)
   first_all at (suc n) k e h l =
@@ -30,7 +30,7 @@ module _ {A : Type 0} (f : ℕ → Option A) where
       by_test (eqb k at) (λ q. ap f (eqb-true k at q) ∙ s.0)
       (λ q. let d : k ≢ at = eqb-false k at q in first_all (suc at) n k s.1 (omega arith) (omega arith))
 
-  pub first_none : (at n : ℕ) → ((k : ℕ) → at ≤ k → k < at + n → f k ≡ none) → first_of f at n ≡ none
+  pub first_none : (at n : ℕ) → ((k : ℕ) → at ≤ k → k < at + n → f k ≡ None) → first_of f at n ≡ None
   unfolding first_of
   first_none at zero h = refl
   first_none at (suc n) h = rw (h at (omega arith) (omega arith)) (first_none (suc at) n (λ k l m. h k (omega arith) (omega arith)))
@@ -40,13 +40,13 @@ module _ {A : Type 0} (f : ℕ → Option A) where
     pub number : ℕ
     pub low : at ≤ number
     pub high : number < at + n
-    pub says : f number ≡ some a
-    pub before : (k : ℕ) → at ≤ k → k < number → f k ≡ none
+    pub says : f number ≡ Some a
+    pub before : (k : ℕ) → at ≤ k → k < number → f k ≡ None
 
-  first_here : (at n : ℕ) (a : A) → f at ≡ some a → First at (suc n) a
+  first_here : (at n : ℕ) (a : A) → f at ≡ Some a → First at (suc n) a
   first_here at n a e = record { number = at; low = omega arith; high = omega arith; says = e; before = λ k h l. absurd (omega arith) }
 
-  first_later : (at n : ℕ) (a : A) → f at ≡ none → First (suc at) n a → First at (suc n) a
+  first_later : (at n : ℕ) (a : A) → f at ≡ None → First (suc at) n a → First at (suc n) a
   first_later at n a e r = record {
     number = r.number;
     low = omega (arith, r.low);
@@ -55,12 +55,12 @@ module _ {A : Type 0} (f : ℕ → Option A) where
     before = λ k h l. by_test (eqb k at) (λ q. ap f (eqb-true k at q) ∙ e) (λ q. let d : k ≢ at = eqb-false k at q in r.before k (omega arith) l);
   }
 
-  first_or : (at n : ℕ) (a : A) (o : Option A) → f at ≡ o → or_else o (first_of f (suc at) n) ≡ some a
-      → (first_of f (suc at) n ≡ some a → First (suc at) n a) → First at (suc n) a
-  first_or at n a none q e later = first_later at n a q (later e)
-  first_or at n a (some b) q e later = first_here at n a (q ∙ e)
+  first_or : (at n : ℕ) (a : A) (o : Option A) → f at ≡ o → or_else o (first_of f (suc at) n) ≡ Some a
+      → (first_of f (suc at) n ≡ Some a → First (suc at) n a) → First at (suc n) a
+  first_or at n a None q e later = first_later at n a q (later e)
+  first_or at n a (Some b) q e later = first_here at n a (q ∙ e)
 
-  pub first_some : (at n : ℕ) (a : A) → first_of f at n ≡ some a → First at n a
+  pub first_some : (at n : ℕ) (a : A) → first_of f at n ≡ Some a → First at n a
   unfolding first_of
   first_some at zero a e = clash (cc)
   first_some at (suc n) a e = first_or at n a (f at) refl e (λ q. first_some (suc at) n a q)
@@ -68,12 +68,12 @@ module _ {A : Type 0} (f : ℕ → Option A) where
 -- ---- whether there is nothing to say, of each element of a list
 
 abbrev pub is_none : {A : Type 0} → Option A → Bool
-is_none none = true
-is_none (some a) = false
+is_none None = true
+is_none (Some a) = false
 
-pub none_is : {A : Type 0} (o : Option A) → is_none o ≡ true → o ≡ none
-none_is none e = refl
-none_is (some a) e = clash (cc)
+pub none_is : {A : Type 0} (o : Option A) → is_none o ≡ true → o ≡ None
+none_is None e = refl
+none_is (Some a) e = clash (cc)
 
 pub first_every : {A B : Type 0} (g : A → Option B) (d : A) (xs : List A)
     → is_none (first_of (λ n. g (get_or xs n d)) 0 (length xs)) ≡ every (λ x. is_none (g x)) xs
@@ -89,12 +89,12 @@ module _ {A : Type 0} (f : ℕ → Option A) (i e : ℕ) (whole : Option A) (her
   unfolding first_of
   open_here h = let z : e - i ≡ suc (e - suc i) = omega arith in sym (ap (first_of f i) z) ∙ here
 
-  pub first_next : {o : Option A} {j : ℕ} → i < e → o ≡ f i → o ≡ none → j ≡ i + 1 → first_of f j (e - j) ≡ whole
+  pub first_next : {o : Option A} {j : ℕ} → i < e → o ≡ f i → o ≡ None → j ≡ i + 1 → first_of f j (e - j) ≡ whole
   first_next h q n t = rw (t, add-one) (rw (sym q ∙ n) at (open_here h))
 
-  pub first_hit : {o : Option A} {a : A} → i < e → o ≡ f i → o ≡ some a → some a ≡ whole
+  pub first_hit : {o : Option A} {a : A} → i < e → o ≡ f i → o ≡ Some a → Some a ≡ whole
   first_hit h q n = rw (sym q ∙ n) at (open_here h)
 
-  pub first_end : e ≤ i → none ≡ whole
+  pub first_end : e ≤ i → None ≡ whole
   unfolding first_of
   first_end h = let z : e - i ≡ 0 = omega arith in sym (ap (first_of f i) z) ∙ here

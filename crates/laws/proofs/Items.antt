@@ -2,7 +2,7 @@
 -- Assumes nothing.
 use mathlib.Core.Path.{◌≡◌, refl, ap}
 use mathlib.Core.List.{List, []}
-use mathlib.Core.Option.{Option, none, some}
+use Rattle.std.specs.Prelude.{Option, None, Some}
 use Prim.Native.Nat.{ℕ, zero, suc, ◌+◌, ◌<◌, ◌≤◌}
 use native.Mathlib.Omega.{arith}
 use lib.Dec.{eqb}
@@ -13,8 +13,8 @@ use Rattle.laws.proofs.Chain.{by_test}
 module _ {A S R : Type 0} (g : A → S → S) (done : S → R) (bad : R) where
   pub over-before : (s : S) (a : A) (m : Option (List A)) → over g done bad s (before a m) ≡ over g done bad (g a s) m
   unfolding over each
-  over-before s a none = refl
-  over-before s a (some l) = refl
+  over-before s a None = refl
+  over-before s a (Some l) = refl
 
 module _ {A : Type 0} (f : ℕ → A) (next : A → ℕ) (e : ℕ) (forward : (at : ℕ) → (next (f at) ≡ 0 → ⊥) → at < next (f at)) where
   -- any bound that is enough gives the same
@@ -35,12 +35,12 @@ module _ {A : Type 0} (f : ℕ → A) (next : A → ℕ) (e : ℕ) (forward : (a
       let p : at < next (f at) = forward at n in
       rw (lt-ltb at e h, ne_eqb (next (f at)) 0 n) (ap (before (f at)) (enough m (suc m) (next (f at)) (omega arith) (omega arith)))
 
-  pub items_bad : (k at : ℕ) → e ≤ k → at < e → next (f at) ≡ 0 → items f next k e at ≡ none
+  pub items_bad : (k at : ℕ) → e ≤ k → at < e → next (f at) ≡ 0 → items f next k e at ≡ None
   unfolding items
   items_bad zero at l h n = absurd (omega arith)
   items_bad (suc m) at l h n = rw (lt-ltb at e h, n)
 
-  pub items_end : (k at : ℕ) → e ≤ at → items f next k e at ≡ some []
+  pub items_end : (k at : ℕ) → e ≤ at → items f next k e at ≡ Some []
   unfolding items
   items_end zero at h = rw (le-ltb at e h)
   items_end (suc m) at h = rw (le-ltb at e h)

@@ -2,7 +2,7 @@
 -- Assumes nothing.
 use mathlib.Core.Path.{◌≡◌, refl, sym, ap, subst, ◌∙◌}
 use mathlib.Core.List.{List, [], ◌∷◌, ◌++◌}
-use mathlib.Core.Option.{Option, none, some}
+use Rattle.std.specs.Prelude.{Option, None, Some}
 use Prim.Native.Nat.{ℕ, suc, ◌≤◌, ◌<◌}
 use native.Mathlib.Omega.{arith}
 use lib.Dec.{leb, ltb}
@@ -15,7 +15,7 @@ use Rattle.laws.proofs.Sorted.{All-map, from_all, from_bound}
 module _ {A : Type 0} (key : A → ℕ) where
   -- what a turn of the search makes of the rest
   abbrev turn : (bound : ℕ) → A → Option A → Option A
-  turn bound x rest = pick (leb bound (key x)) (some (nearer key x rest)) rest
+  turn bound x rest = pick (leb bound (key x)) (Some (nearer key x rest)) rest
 
   head-insert : (bound : ℕ) (x : A) (s : List A) → head_of (from key bound (insert key x s)) ≡ turn bound x (head_of (from key bound s))
   unfolding from insert
@@ -37,19 +37,19 @@ module _ {A : Type 0} (key : A → ℕ) where
   search_finds bound [] = refl
   search_finds bound (x ∷ xs) = head-insert bound x (sort key xs) ∙ rw (search_finds bound xs)
 
-  head-all : (P : A → Type 0) (xs : List A) (x : A) → All P xs → head_of xs ≡ some x → P x
+  head-all : (P : A → Type 0) (xs : List A) (x : A) → All P xs → head_of xs ≡ Some x → P x
   head-all P [] x a h = absurd (let z : ◌≡◌ {A = ℕ} 0 1 = cc in omega arith)
   head-all P (y ∷ ys) x a h = let same : y ≡ x = cc in rw same at a.0
 
-  pub from-none : (bound : ℕ) (s : List A) → head_of (from key bound s) ≡ none → from key bound s ≡ []
+  pub from-none : (bound : ℕ) (s : List A) → head_of (from key bound s) ≡ None → from key bound s ≡ []
   from-none bound s h = go (from key bound s) h
     where
-      go : (l : List A) → head_of l ≡ none → l ≡ []
+      go : (l : List A) → head_of l ≡ None → l ≡ []
       go [] e = refl
       go (x ∷ l) e = absurd (let z : ◌≡◌ {A = ℕ} 0 1 = cc in omega arith)
 
   -- after an element, the next bound is its key plus one
-  pub from_step : (bound : ℕ) (s : List A) (x : A) → Sorted key s → head_of (from key bound s) ≡ some x → from key bound s ≡ x ∷ from key (suc (key x)) s
+  pub from_step : (bound : ℕ) (s : List A) (x : A) → Sorted key s → head_of (from key bound s) ≡ Some x → from key bound s ≡ x ∷ from key (suc (key x)) s
   unfolding from
   from_step bound [] x o h = absurd (let z : ◌≡◌ {A = ℕ} 0 1 = cc in omega arith)
   from_step bound (y ∷ ys) x o h =
@@ -62,7 +62,7 @@ module _ {A : Type 0} (key : A → ℕ) where
         lt-leb (suc (key y)) (key y) (omega arith),
         after_all (suc (key y)) (omega arith),
       )))
-      (λ q. let k : head_of (from key bound ys) ≡ some x = rw q at h in
+      (λ q. let k : head_of (from key bound ys) ≡ Some x = rw q at h in
       rw (
         q,
         lt-leb (suc (key x)) (key y)
@@ -75,13 +75,13 @@ module _ {A : Type 0} (key : A → ℕ) where
 
   -- the least of two lists is the nearer of both
   abbrev pub join_least : Option A → Option A → Option A
-  join_least none o = o
-  join_least (some x) o = some (nearer key x o)
+  join_least None o = o
+  join_least (Some x) o = Some (nearer key x o)
 
   nearer-join : (x : A) (a b : Option A) → nearer key x (join_least a b) ≡ nearer key (nearer key x a) b
-  nearer-join x none b = refl
-  nearer-join x (some y) none = refl
-  nearer-join x (some y) (some z) =
+  nearer-join x None b = refl
+  nearer-join x (Some y) None = refl
+  nearer-join x (Some y) (Some z) =
       by_test (ltb (key x) (key y))
       (λ p. by_test (ltb (key y) (key z))
       (λ q. rw (q, p, lt-ltb (key x) (key z) (omega (arith, ltb-true (key x) (key y) p, ltb-true (key y) (key z) q))))
@@ -94,4 +94,4 @@ module _ {A : Type 0} (key : A → ℕ) where
   least-append bound [] ys = refl
   least-append bound (x ∷ xs) ys =
       by_test (leb bound (key x))
-      (λ e. rw (e, least-append bound xs ys) (ap some (nearer-join x (least key bound xs) (least key bound ys)))) (λ e. rw e (least-append bound xs ys))
+      (λ e. rw (e, least-append bound xs ys) (ap Some (nearer-join x (least key bound xs) (least key bound ys)))) (λ e. rw e (least-append bound xs ys))

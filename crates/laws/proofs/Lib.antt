@@ -13,3 +13,4 @@ pub mod Sorted
 pub mod Tests
 pub mod Least
 pub mod Loops
+pub mod Chains

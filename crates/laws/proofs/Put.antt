@@ -8,6 +8,7 @@ use native.Mathlib.Numerals.{add-one}
 use native.Mathlib.Nat.{add_assoc, add-zero, sub_self, zero-add}
 use lib.ListN.{length, take, drop, set, replicate, length-append, length-drop, length-replicate, take-append-drop, drop_of_length-le, replicate-append-replicate}
 use lib.Seq.{take_at, drop_at, drop-append-add, drop-drop, length-take-le, set_split, append_snoc, take_all, take-take, take-nil, drop-cons, set_at, paste}
+use borrow.Rule.Slice.PartMut.{put_mid}
 use Rattle.laws.specs.Put.{put, laid, zeroed, KeptFrom}
 
 module _ (xs : List ℕ) (at : ℕ) (ys : List ℕ) (fits : at + length ys ≤ length xs) where
@@ -178,3 +179,17 @@ part_of_take (suc a) n (suc size) (x ∷ xs) h = part_of_take a n size xs (omega
 
 pub part_of_part : (xs : List ℕ) (start size a n : ℕ) → a + n ≤ size → take n (drop (start + a) xs) ≡ take n (drop a (take size (drop start xs)))
 part_of_part xs start size a n h = sym (part_of_take a n size (drop start xs) h ∙ rw drop-drop)
+
+-- ---- a part that was lent, and what it holds when it comes back
+
+pub mid-put : (xs : List ℕ) (a k : ℕ) (ys zs : List ℕ) → zs ≡ ys → k ≡ length ys → put_mid a k xs zs ≡ put xs a ys
+unfolding put
+mid-put xs a k ys zs e n = rw (e, n, drop-drop) (sym (append_assoc (take a xs) ys (drop (a + length ys) xs)))
+
+pub mid-zeroed : (xs : List ℕ) (a m : ℕ) (zs : List ℕ) → zs ≡ replicate (length (take (m - a) (drop a xs))) 0 → (a ≤ m) × (m ≤ length xs)
+    → put_mid a (m - a) xs zs ≡ zeroed a m xs
+unfolding zeroed
+mid-zeroed xs a m zs e h =
+    let n : length (take (m - a) (drop a xs)) ≡ m - a = length_part xs a (m - a) (omega arith) in
+    let b : a + (m - a) ≡ m = omega arith in
+    rw (e, n, drop-drop, b) refl

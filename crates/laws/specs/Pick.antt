@@ -1,6 +1,6 @@
 -- A choice by a test, at any type; tests joined; whether there is something.
 use Rattle.std.specs.Prelude.{Bool, true, false, List, [], ◌∷◌}
-use Rattle.std.proofs.Math.Option.{Option, none, some}
+use Rattle.std.specs.Prelude.{Option, None, Some}
 
 abbrev pub pick : {A : Type 0} → Bool → A → A → A
 pick true a b = a
@@ -19,8 +19,8 @@ is_empty [] = true
 is_empty (x ∷ xs) = false
 
 abbrev pub is_some : {A : Type 0} → Option A → Bool
-is_some none = false
-is_some (some x) = true
+is_some None = false
+is_some (Some x) = true
 
 -- `both` between its tests, for many of them, one a line
 abbrev pub ◌&◌ : Bool → Bool → Bool

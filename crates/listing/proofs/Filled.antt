@@ -1,6 +1,8 @@
 -- A page entry by entry, as far as entries fit, and its header written when all of them stand.
 -- Assumes nothing.
-use Rattle.std.proofs.Common.{◌≡◌, ℕ, ◌+◌, ◌-◌, ◌<◌, ◌≤◌, max, Bool, true, false, eqb, leb, List, [], ◌∷◌, ◌++◌, length, take, drop, sym, refl, ap, ◌∙◌, append_assoc, append-nil, arith, length-append, length-take-le, take_at, drop_at, le-ltb, lt-ltb, ne_eqb, le-leb, leb-false, leb-true}
+use Rattle.std.proofs.Common.{◌≡◌, ℕ, ◌+◌, ◌-◌, ◌<◌, ◌≤◌, max, Bool, true, false, eqb, leb, List, [], ◌∷◌, ◌++◌, length, take, drop, sym, refl, ap, ◌∙◌}
+use Rattle.std.proofs.Common.{append_assoc, append-nil, arith, length-append, length-take-le, take_at, drop_at, le-ltb, lt-ltb, ne_eqb, le-leb, leb-false}
+use Rattle.std.proofs.Common.{leb-true}
 use lib.Dec.{eqb-zero-suc, eqb-suc-suc}
 use lib.Seq.{take-append-add}
 use borrow.Author.Tests.{lt-leb}
@@ -16,6 +18,7 @@ use Rattle.definition.specs.Symbols.{due}
 use Rattle.cip.specs.Statuses.{has_word}
 use Rattle.cip.specs.Writes.{Written, Laid}
 use Rattle.listing.specs.Entries.{stopped, Stepped, more, full, done, Further}
+use Rattle.listing.specs.declared.pages.Walk.{Walk}
 use Rattle.listing.specs.declared.pages.Step.{Step}
 use Rattle.listing.specs.declared.pages.Step.TheVariants.{More, Full, Done}
 use Rattle.cip.proofs.Capped.{reply-body, header_four, reply_long}
@@ -127,7 +130,7 @@ module _ (t : Tables) (scope : ℕ) (attributes : List ℕ) (start service limit
   abbrev Answers : (r : ℕ) (z : List ℕ) → Type 0
   Answers r z = Laid limit (page_reply service (due t scope attributes start) limit) old r z
 
-  pub filled_none : end ≡ max 4 limit → Fills 4 start old
+  pub filled_none : end ≡ max limit 4 → Fills 4 start old
   filled_none e =
       let s : end - 4 ≡ limit - 4 = omega arith in
       record { bytes = []; used_is = refl; buffer_is = sym (put-none old 4); goes_on = rw s (filled_all service limit _) }
@@ -141,12 +144,12 @@ module _ (t : Tables) (scope : ℕ) (attributes : List ℕ) (start service limit
         → filled service (eqb used 4) (end - used) f.bytes es ≡ ys → ys ≡ page_reply service (due t scope attributes start) limit
     rest_is f es ys d e = sym e ∙ ap (λ (l : List Entry). filled service (eqb used 4) (end - used) f.bytes l) (sym d) ∙ f.goes_on
 
-    added : {u b n : ℕ} → Fills used bound x → used + 4 ≤ u → end ≤ length old → Steps (More u b n) → Fills u b y
-    added {u} {b} {n} f k h (more e q d a l p) = record {
+    added : {w : Walk} → Fills used bound x → used + 4 ≤ w.used → end ≤ length old → Steps (More w) → Fills w.used w.bound y
+    added {w} f k h (more e q d a l p) = record {
       bytes = f.bytes ++ e.bytes;
       used_is = simp length-append (omega arith);
       buffer_is = put_then old x y 4 f.bytes used e.bytes f.buffer_is p f.used_is (omega arith);
-      goes_on = rest_is f _ _ d (filled_more service end used f.bytes e (due t scope attributes b) u (omega arith) k a l);
+      goes_on = rest_is f _ _ d (filled_more service end used f.bytes e (due t scope attributes w.bound) w.used (omega arith) k a l);
     }
 
     module _ (r : ℕ) (z : List ℕ) (f : Fills used bound x) (inside : used ≤ room limit) (holds : room limit ≤ length old) where
@@ -164,16 +167,16 @@ module _ (t : Tables) (scope : ℕ) (attributes : List ℕ) (start service limit
       ended (done d p) w = answered _ (rest_is f _ _ d (filled_done service end used f.bytes)) (rw (p, data_are) at w)
 
     module _ (s : Step) (f : Fills used bound x) (step : Steps s) where
-      pub entry_added : {u b n : ℕ} → s ≡ More u b n → used + 4 ≤ u → end ≤ length old → Fills u b y
+      pub entry_added : {w : Walk} → s ≡ More w → used + 4 ≤ w.used → end ≤ length old → Fills w.used w.bound y
       entry_added q k h = added f k h (rw q at step)
 
-      pub page_stopped : {r : ℕ} {z : List ℕ} → s ≡ Full → used ≤ end → end ≡ max 4 limit → room limit ≤ length old
+      pub page_stopped : {r : ℕ} {z : List ℕ} → s ≡ Full → used ≤ end → end ≡ max limit 4 → room limit ≤ length old
           → Laid limit (stopped service used y) y r z → Answers r z
       page_stopped q h e k w = stopped_full _ _ f (omega arith) k h (rw q at step) w
 
-      pub page_ended : {r : ℕ} {z : List ℕ} → s ≡ Done → used ≤ end → end ≡ max 4 limit → room limit ≤ length old
+      pub page_ended : {r : ℕ} {z : List ℕ} → s ≡ Done → used ≤ end → end ≡ max limit 4 → room limit ≤ length old
           → Laid limit (reply service success (part y 4 (used - 4))) y r z → Answers r z
       page_ended q h e k w = ended _ _ f (omega arith) k (rw q at step) w
 
-pub further_more : (used limit : ℕ) {u b n : ℕ} (s : Step) → s ≡ More u b n → Further used limit s → (used + 4 ≤ u) × (u ≤ limit)
+pub further_more : (used limit : ℕ) {w : Walk} (s : Step) → s ≡ More w → Further used limit s → (used + 4 ≤ w.used) × (w.used ≤ limit)
 further_more used limit s q f = rw q at f

@@ -1,10 +1,9 @@
-pub mod Laws
-pub mod Sizes
 pub mod Lists
+pub mod Found
+pub mod Sent
 pub mod Objects
-pub mod Attributed
 pub mod Made
-pub mod Paged
 pub mod Hinted
+pub mod Paged
 pub mod Filled
 pub mod Starts

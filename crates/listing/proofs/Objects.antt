@@ -1,149 +1,160 @@
--- The objects' lists as the definition has them.
+-- The values of an object's attributes and the bytes of its list's reply, as the definition has them.
 -- Assumes nothing.
-use Rattle.std.proofs.Common.{◌≡◌, ℕ, ◌-◌, ◌<◌, Bool, true, ltb, List, [], ◌∷◌, length, get_or, take, drop, sym, refl, ◌∙◌, arith, length-drop, take_all, ltb-true}
-use mathlib.Core.Option.{Option, none, some}
-use Rattle.laws.specs.Pick.{pick, either, is_some}
-use Rattle.laws.proofs.Chain.{clash}
-use Rattle.laws.proofs.Tests.{both_true}
-use Rattle.definition.specs.Bytes.{counted}
-use Rattle.definition.specs.Reply.{fail, path_unknown}
-use Rattle.definition.specs.Names.{is_program_name}
+use Rattle.std.proofs.Common.{◌≡◌, ℕ, ◌+◌, ◌%◌, ◌<◌, ◌≤◌, Bool, true, false, eqb, List, [], ◌++◌, length, get_or, sym, refl, ◌∙◌, arith}
+use Rattle.std.specs.Prelude.{Option, None, Some}
+use Rattle.laws.specs.Put.{put, zeroed}
+use Rattle.laws.specs.Pick.{pick, is_some}
+use Rattle.laws.proofs.Chain.{chain}
+use Rattle.laws.proofs.Put.{put_then}
+use Rattle.definition.specs.Bytes.{le16, le32, counted}
+use Rattle.definition.specs.Reply.{reply, room, success, fail, too_large, too_short, path_unknown}
 use Rattle.definition.specs.Tables.{Tables, Row, other_name}
-use Rattle.definition.specs.Lookup.{program_of, template_in, id_in, first}
-use Rattle.definition.specs.Attributes.{attribute_entries, list_reply, structure_attribute, structure_list, structure_attributes, program_reference, named_program, symbol_attributes}
+use Rattle.definition.specs.Lookup.{program_of, template_in, id_in}
+use Rattle.definition.specs.Attributes.{attribute_entry, attribute_entries, list_reply, structure_attribute, structure_attributes, program_reference}
+use Rattle.definition.specs.Attributes.{symbol_attributes}
 use Rattle.definition.specs.Answer.{capped}
-use Rattle.cip.specs.Writes.{Laid}
-use Rattle.model.specs.Rows.{found_of, id_is}
-use Rattle.model.specs.declared.lookup.Found.{Found}
-use Rattle.model.specs.declared.lookup.Found.TheVariants.{At, Nothing}
-use Rattle.listing.specs.Objects.{object_value, structure_object, program_by, program_object, tag_list}
-use Rattle.listing.specs.declared.attributes.Described.{Described}
-use Rattle.listing.specs.declared.attributes.Described.TheVariants.{Program, Plain}
-use Rattle.listing.proofs.Laws.{inside_by, first_inside}
+use Rattle.cip.specs.Writes.{Written, Laid}
+use Rattle.cip.proofs.Laws.{finished}
+use Rattle.cip.proofs.Capped.{header_then, capped_fits, capped-large}
+use Rattle.model.proofs.Laws.{le16_low}
+use Rattle.listing.specs.Objects.{object_value}
+use Rattle.listing.proofs.Lists.{Adds}
+use Rattle.listing.specs.declared.attributes.Object.{Object}
+use Rattle.listing.specs.declared.attributes.Object.TheVariants.{Structure, Symbol}
 
--- ---- names of programs
+-- ---- values: of a number only the low 16 bits are sent
 
-pub program_long : (name : List ℕ) (b : Bool) → b ≡ is_program_name name → b ≡ true → 8 < length name
-unfolding is_program_name
-program_long name b e t = ltb-true 8 (length name) (both_true (ltb 8 (length name)) _ (sym e ∙ t)).0
+pub short_low : (x y : ℕ) → x ≡ y % 65536 → Some (le16 x) ≡ Some (le16 y)
+short_low x y e = rw (e, le16_low)
 
-pub rest_of : (xs : List ℕ) (k : ℕ) → take (length xs - k) (drop k xs) ≡ drop k xs
-rest_of xs k = take_all (length xs - k) (drop k xs) (simp length-drop (omega arith))
+pub long_same : (x y : ℕ) → x ≡ y → Some (le32 x) ≡ Some (le32 y)
+long_same x y e = rw e
 
-pub object_at : (k : ℕ) (f : Found) (o : Option ℕ) → f ≡ At k → f ≡ found_of o → Program k ≡ program_object o
-object_at k f none q e = clash (cc (q, e))
-object_at k f (some j) q e = let h : k ≡ j = cc (q, e) in rw h
+pub ruleset values = (chain, short_low, long_same)
 
-pub object-none : (f : Found) (o : Option ℕ) → f ≡ Nothing → f ≡ found_of o → Plain ≡ program_object o
-object-none f none q e = refl
-object-none f (some j) q e = clash (cc (q, e))
+-- ---- an entry: an attribute of an object is short, and so is its entry
 
--- ---- a list whose values are the same
+abbrev Short : Option (List ℕ) → Type 0
+Short None = Unit {0}
+Short (Some bytes) = length bytes ≤ 12
 
-module _ (v w : ℕ → Option (List ℕ)) (same : (a : ℕ) → v a ≡ w a) where
-  entries_same : (l : List ℕ) → attribute_entries v l ≡ attribute_entries w l
+short_pick : (t : Bool) (bytes : List ℕ) (r : Option (List ℕ)) → (t ≡ true → length bytes ≤ 12) → Short r → Short (pick t (Some bytes) r)
+short_pick true bytes r h s = h refl
+short_pick false bytes r h s = s
+
+value_lem : (o : Object) (a : ℕ) → Short (object_value o a)
+unfolding structure_attribute
+value_lem (Structure row) a =
+    short_pick (eqb a 1) _ _ (λ e. omega arith) (short_pick (eqb a 2) _ _ (λ e. omega arith)
+    (short_pick (eqb a 4) _ _ (λ e. omega arith) (short_pick (eqb a 5) _ _ (λ e. omega arith) tt)))
+value_lem (Symbol None) a = tt
+value_lem (Symbol (Some k)) a = short_pick (eqb a 0x0D) _ _ (λ e. omega arith) tt
+
+short_by : (x : Option (List ℕ)) (bytes : List ℕ) → Some bytes ≡ x → Short x → length bytes ≤ 12
+short_by x bytes e h = rw (← e) at h
+
+entry_by : (a : ℕ) (x : Option (List ℕ)) → Short x → length (attribute_entry a x) ≤ 16
+entry_by a None h = omega arith
+entry_by a (Some bytes) h = omega (arith, h)
+
+module _ (o : Object) (a : ℕ) where
+  pub value_short : (bytes : List ℕ) → Some bytes ≡ object_value o a → length bytes ≤ 12
+  value_short bytes e = short_by (object_value o a) bytes e (value_lem o a)
+
+  pub entry_short : length (attribute_entry a (object_value o a)) ≤ 16
+  entry_short = entry_by a (object_value o a) (value_lem o a)
+
+-- ---- an entry's bytes: the number, a status word and the value
+
+module _ (a at : ℕ) (old x y : List ℕ) (first : x ≡ put old at (le16 a)) where
+  pub entry-unknown : y ≡ put x (at + 2) (le16 0x14) → at + 4 ≤ length old → Written at (attribute_entry a None) old 4 y
+  entry-unknown p h = record { length_is = refl; buffer_is = put_then _ _ _ _ _ _ _ first p refl (omega arith) }
+
+  pub entry_known : (bytes z : List ℕ) (k : ℕ) → y ≡ put x (at + 2) (le16 0) → Written (at + 4) bytes y k z
+      → at + (4 + length bytes) ≤ length old → Written at (attribute_entry a (Some bytes)) old (4 + k) z
+  entry_known bytes z k p w h = record {
+    length_is = omega (arith, w.length_is);
+    buffer_is =
+        put_then _ _ _ _ _ _ _ (put_then _ _ _ _ _ _ _ first p refl (omega arith)) w.buffer_is refl (omega arith);
+  }
+
+-- ---- the list of an object's attributes
+
+module _ (o : Object) where
+  abbrev pub each : ℕ → List ℕ
+  each a = attribute_entry a (object_value o a)
+
+  abbrev pub all : List ℕ → List ℕ
+  all l = attribute_entries (object_value o) l
+
+  pub entries : Adds each all
   unfolding attribute_entries
-  entries_same [] = refl
-  entries_same (a ∷ l) = rw (same a, entries_same l)
+  entries = record { none = refl; one = λ a l. refl }
 
-  list_same : (service : ℕ) (l : Option (List ℕ)) → list_reply service v l ≡ list_reply service w l
-  list_same service none = refl
-  list_same service (some l) = rw (entries_same l)
+-- ---- the reply
+
+module _ (limit service : ℕ) (o : Object) (body old : List ℕ) where
+  abbrev ListLaid : List ℕ → (r : ℕ) → Type 0
+  ListLaid new r = Laid limit (capped service limit (list_reply service (object_value o) (counted body))) old r new
+
+  pub list-missing : {r : ℕ} {new : List ℕ} → None ≡ counted body → Laid limit (capped service limit (fail service too_short)) old r new → ListLaid new r
+  list-missing e l = rw (← e) l
+
+  module _ (list : List ℕ) (is : Some list ≡ counted body) where
+    abbrev whole : List ℕ
+    whole = reply service success (le16 (length list) ++ all o list)
+
+    whole_long : length whole ≡ 6 + length (all o list)
+    unfolding reply
+    whole_long = omega arith
+
+    whole_split : reply service success (le16 (length list)) ++ all o list ≡ whole
+    unfolding reply
+    whole_split = refl
+
+    pub list-large : {r : ℕ} {new : List ℕ} → limit < 6 + length (all o list) → Laid limit (fail service too_large) old r new → ListLaid new r
+    list-large h l = rw (← is, capped-large service limit whole (omega (arith, whole_long))) l
+
+    pub list_sent : (w used h r : ℕ) (x y z e : List ℕ) → 6 + length (all o list) ≤ limit → length list ≤ 65535 → room limit ≤ length old
+        → Written 0 (reply service success []) old h x → w ≡ length list % 65536 → y ≡ put x 4 (le16 w) → used ≡ 6 + length (all o list)
+        → z ≡ put y 6 (all o list) → r ≡ used → e ≡ zeroed used (room limit) z → ListLaid e r
+    list_sent w used h r x y z e fits small long a b d u q f g =
+        let start = header_then service success (le16 (length list)) old x y h refl a (rw (b, le16_low) at d) (omega arith) in
+        let written : Written 0 whole old used z = record {
+          length_is = u ∙ sym whole_long;
+          buffer_is = rw whole_split at (put_then _ _ _ _ _ _ _ start.buffer_is q (omega (arith, start.length_is)) (omega arith));
+        } in
+        rw (← is, capped_fits service limit whole (omega (arith, whole_long)))
+        (finished limit used whole old z e r written f g (omega (arith, whole_long)) long)
 
 module _ (limit service : ℕ) (body old new : List ℕ) (r : ℕ) where
   -- what is laid is the reply, item 20 counted
   abbrev Answered : List ℕ → Type 0
   Answered bytes = Laid limit (capped service limit bytes) old r new
 
-  abbrev Listed : Described → Type 0
-  Listed o = Answered (list_reply service (object_value o) (counted body))
-
   module _ (structures : List Row) (id : ℕ) where
-    structure_by : (i : ℕ) (f : Found) (o : Option ℕ) → f ≡ At i → f ≡ found_of o → Listed (structure_object (get_or structures i []))
-        → Answered (structure_list structures service o body)
-    unfolding structure_attribute
-    structure_by i f none q e l = clash (cc (q, e))
-    structure_by i f (some j) q e l =
-        let h : i ≡ j = cc (q, e) in
-        rw (
-          ← h,
-          list_same (structure_attribute (get_or structures i [])) (object_value (structure_object (get_or structures i []))) (λ a. refl) service
-              (counted body),
-        ) l
-
-    unknown_by : (f : Found) (o : Option ℕ) → f ≡ Nothing → f ≡ found_of o → Answered (fail service path_unknown)
-        → Answered (structure_list structures service o body)
-    unknown_by f none q e l = l
-    unknown_by f (some j) q e l = clash (cc (q, e))
-
-    pub structure_listed : (i : ℕ) (f : Found) → f ≡ At i → f ≡ found_of (template_in structures id) → Listed (structure_object (get_or structures i []))
+    pub structure-listed : (i : ℕ) → Some i ≡ template_in structures id
+        → Answered (list_reply service (structure_attribute (get_or structures i [])) (counted body))
         → Answered (structure_attributes structures service id body)
     unfolding structure_attributes
-    structure_listed i f q e l = structure_by i f (template_in structures id) q e l
+    structure-listed i e l = rw (← e) l
 
-    pub structure_unknown : (f : Found) → f ≡ Nothing → f ≡ found_of (template_in structures id) → Answered (fail service path_unknown)
-        → Answered (structure_attributes structures service id body)
+    pub structure-unknown : None ≡ template_in structures id → Answered (fail service path_unknown) → Answered (structure_attributes structures service id body)
     unfolding structure_attributes
-    structure_unknown f q e l = unknown_by f (template_in structures id) q e l
+    structure-unknown e l = rw (← e) l
 
-  module _ (tags : List Row) (id : ℕ) where
-    abbrev TagAnswered : Option ℕ → Type 0
-    TagAnswered o = Answered (pick (is_some o) (list_reply service (object_value Plain) (counted body)) (fail service path_unknown))
-
-    tag_by : (i : ℕ) (f : Found) (o : Option ℕ) → f ≡ At i → f ≡ found_of o → Listed Plain → TagAnswered o
-    tag_by i f none q e l = clash (cc (q, e))
-    tag_by i f (some j) q e l = l
-
-    no_tag_by : (f : Found) (o : Option ℕ) → f ≡ Nothing → f ≡ found_of o → Answered (fail service path_unknown) → TagAnswered o
-    no_tag_by f none q e l = l
-    no_tag_by f (some j) q e l = clash (cc (q, e))
-
-    pub tag_listed : (i : ℕ) (f : Found) → f ≡ At i → f ≡ found_of (id_in tags 0 id) → Listed Plain → Answered (tag_list tags service id body)
-    unfolding tag_list
-    tag_listed i f q e l = tag_by i f (id_in tags 0 id) q e l
-
-    pub tag_unknown : (f : Found) → f ≡ Nothing → f ≡ found_of (id_in tags 0 id) → Answered (fail service path_unknown) → Answered (tag_list tags service id body)
-    unfolding tag_list
-    tag_unknown f q e l = no_tag_by f (id_in tags 0 id) q e l
-
-  module _ (tables : Tables) (id : ℕ) where
-    -- `symbol_attributes`, with what the two lookups found
-    abbrev SymbolAnswered : Option ℕ → Option ℕ → Type 0
-    SymbolAnswered o t =
-        Answered (pick (either (is_some o) (is_some t)) (list_reply service (program_reference (named_program tables o)) (counted body)) (fail service path_unknown))
-
-    reference_same : (p : Option ℕ) (a : ℕ) → program_reference p a ≡ object_value (program_object p) a
-    reference_same none a = refl
-    reference_same (some k) a = refl
-
-    other_by : (i : ℕ) (f : Found) (x : Described) (o t : Option ℕ) → f ≡ At i → f ≡ found_of o
-        → x ≡ program_object (program_by tables.programs tables.names (other_name tables.names (get_or tables.others i [])))
-        → Listed x → SymbolAnswered o t
-    unfolding program_of program_by
-    other_by i f x none t q e p l = clash (cc (q, e))
-    other_by i f x (some j) t q e p l =
-        let h : i ≡ j = cc (q, e) in
-        let name = program_by tables.programs tables.names (other_name tables.names (get_or tables.others j [])) in
-        rw (list_same (program_reference name) (object_value (program_object name)) (reference_same name) service (counted body)) (rw (p, h) at l)
-
-    tag_only : (f : Found) (o t : Option ℕ) → f ≡ Nothing → f ≡ found_of o
-        → Answered (pick (is_some t) (list_reply service (object_value Plain) (counted body)) (fail service path_unknown)) → SymbolAnswered o t
-    tag_only f none t q e l =
-        rw (list_same (program_reference none) (object_value Plain) (λ a. refl) service (counted body)) l
-    tag_only f (some j) t q e l = clash (cc (q, e))
-
-    pub symbol-other : (i : ℕ) (f : Found) (x : Described) → f ≡ At i → f ≡ found_of (id_in tables.others 0 id)
-        → x ≡ program_object (program_by tables.programs tables.names (other_name tables.names (get_or tables.others i []))) → Listed x
-        → Answered (symbol_attributes tables service id body)
+  module _ (t : Tables) (id : ℕ) where
+    pub other_listed : (i : ℕ) (program : Option ℕ) → Some i ≡ id_in t.others 0 id → program ≡ program_of t (other_name t.names (get_or t.others i []))
+        → Answered (list_reply service (program_reference program) (counted body)) → Answered (symbol_attributes t service id body)
     unfolding symbol_attributes
-    symbol-other i f x q e p l = other_by i f x (id_in tables.others 0 id) (id_in tables.tags 0 id) q e p l
+    other_listed i program e p l = rw (← e, ← p) l
 
-    pub symbol-tag : (f : Found) → f ≡ Nothing → f ≡ found_of (id_in tables.others 0 id) → Answered (tag_list tables.tags service id body)
-        → Answered (symbol_attributes tables service id body)
-    unfolding symbol_attributes tag_list
-    symbol-tag f q e l = tag_only f (id_in tables.others 0 id) (id_in tables.tags 0 id) q e l
+    module _ (other : None ≡ id_in t.others 0 id) where
+      pub symbol-unknown : false ≡ is_some (id_in t.tags 0 id) → Answered (fail service path_unknown) → Answered (symbol_attributes t service id body)
+      unfolding symbol_attributes
+      symbol-unknown e l = rw (← other, ← e) l
 
--- what a lookup by ID found is a row
-pub id-inside : (rows : List Row) (scope id i : ℕ) (f : Found) → f ≡ At i → f ≡ found_of (id_in rows scope id) → i < length rows
-unfolding id_in
-id-inside rows scope id i f q e = inside_by (length rows) i f (first (id_is scope id) rows) q e (first_inside (id_is scope id) rows)
+      pub tag_listed : true ≡ is_some (id_in t.tags 0 id) → Answered (list_reply service (program_reference None) (counted body))
+          → Answered (symbol_attributes t service id body)
+      unfolding symbol_attributes
+      tag_listed e l = rw (← other, ← e) l

@@ -1,22 +1,22 @@
 -- A step of a page: the symbol of the next ID, and its entry.
 -- Assumes nothing.
-use Rattle.std.proofs.Common.{◌≡◌, ℕ, suc, ◌<◌, ◌≤◌, true, ltb, leb, List, [], ◌∷◌, ◌++◌, length, get_or, sym, refl, ap, ◌∙◌, arith, leb-true}
+use Rattle.std.proofs.Common.{◌≡◌, ℕ, suc, ◌<◌, ◌≤◌, true, leb, List, [], ◌∷◌, length, get_or, sym, refl, ap, ◌∙◌, leb-true}
+use Rattle.std.specs.Prelude.{Option, None, Some}
 use Rattle.laws.specs.Tests.{every}
-use Rattle.laws.proofs.Tests.{both_true, among, both-none, every_at}
-use Rattle.definition.specs.Bytes.{le32}
-use Rattle.definition.specs.Tables.{Tables, Row, tag_name, tag_access, other_name}
-use Rattle.definition.specs.Valid.{valid, t1, t2, is_name, is_other_name}
-use Rattle.definition.specs.Page.{id_of}
-use Rattle.definition.specs.Symbols.{Symbol as Defined, tag_symbol, other_symbol, attributes_of, entry_of, due}
+use Rattle.laws.proofs.Tests.{among, both-none, every_at}
+use Rattle.definition.specs.Tables.{Tables, tag_access}
+use Rattle.definition.specs.Valid.{valid, t1}
+use Rattle.definition.specs.Page.{Entry, id_of}
+use Rattle.definition.specs.Symbols.{Symbol as Defined, tag_symbol, other_symbol, entry_of, due}
 use Rattle.definition.proofs.Facts.{tag-elements}
-use Rattle.definition.proofs.OtherNames.{other_name_has_at_most_48_bytes}
 use Rattle.model.specs.Least.{next_in}
-use Rattle.model.specs.Tables.{SomeValid, for_page}
+use Rattle.model.specs.Tables.{tables_of, SomeValid}
+use Rattle.model.specs.declared.tables.Tables.{Tables as Lent}
+use Rattle.model.specs.declared.least.Listed.{Listed}
 use Rattle.model.specs.declared.least.Next.{Next}
-use Rattle.model.specs.declared.least.Next.TheVariants.{Tag, Other, Nothing}
+use Rattle.model.specs.declared.least.Next.TheVariants.{Tag, Other}
 use Rattle.model.proofs.Due.{NextDue, none_due, tag_due, other_due, next_due}
-use Rattle.listing.specs.Entries.{made, ListableRow, TagMade, OtherMade, EntryStep, put_in, left_out, Stepped, more, full, done}
-use Rattle.listing.specs.declared.entries.Symbol.{Symbol}
+use Rattle.listing.specs.Entries.{page_lent, ListableRow, EntryStep, put_in, left_out, Stepped, more, full, done}
 use Rattle.listing.specs.declared.pages.Step.{Step}
 use Rattle.listing.specs.declared.pages.Step.TheVariants.{Done}
 
@@ -27,100 +27,82 @@ access-small t memory v i h =
     leb-true _ 3 (every_at (λ r. leb (tag_access r) 3) [] t.tags i (among (every (λ r. leb (tag_access r) 3) t.tags) _ v (λ e. simp (e, both-none))) h)
 
 module _ (t : Tables) (scope bound : ℕ) (attributes : List ℕ) where
-  tag-inside : (i id : ℕ) → NextDue scope attributes t bound (Tag i id) → i < length t.tags
-  tag-inside i id (tag_due h q e) = h
+  tag-inside : (r : Listed) → NextDue scope attributes t bound (Some (Tag r)) → r.place < length t.tags
+  tag-inside r (tag_due h q e) = h
 
-  other-inside : (i id : ℕ) → NextDue scope attributes t bound (Other i id) → i < length t.others
-  other-inside i id (other_due h q e) = h
+  other-inside : (r : Listed) → NextDue scope attributes t bound (Some (Other r)) → r.place < length t.others
+  other-inside r (other_due h q e) = h
 
   module _ (limit used : ℕ) (old : List ℕ) where
     abbrev Steps : Step → List ℕ → Type 0
     Steps r new = Stepped t scope attributes limit used bound old r new
 
-    stepped_by : (d : Defined) (id : ℕ) → id_of (entry_of attributes d) ≡ id
-        → due t scope attributes bound ≡ entry_of attributes d ∷ due t scope attributes (suc id) → (r : Step) (new : List ℕ)
-        → EntryStep (entry_of attributes d).bytes limit used id old r new → Steps r new
-    stepped_by d id q e r new (put_in b u l p) =
-        more (entry_of attributes d) (b ∙ ap suc (sym q)) (e ∙ ap (λ (k : ℕ). entry_of attributes d ∷ due t scope attributes k) (sym b)) u l p
-    stepped_by d id q e r new (left_out h p) = full (entry_of attributes d) (due t scope attributes (suc id)) e h p
+    stepped_by : (e : Entry) (id : ℕ) → id_of e ≡ id → due t scope attributes bound ≡ e ∷ due t scope attributes (suc id) → (s : Step) (new : List ℕ)
+        → EntryStep e limit used old s new → Steps s new
+    stepped_by e id q d s new (put_in b u l p) = more e b (d ∙ ap (λ (k : ℕ). e ∷ due t scope attributes k) (rw (b, q))) u l p
+    stepped_by e id q d s new (left_out h p) = full e (due t scope attributes (suc id)) d h p
 
-    entered_by : (d : Defined) (name : List ℕ) (s : Symbol) (id : ℕ) (r : Step) (new : List ℕ) → made name s ≡ d
-        → EntryStep (le32 s.id ++ attributes_of (made name s) attributes) limit used id old r new
-        → EntryStep (entry_of attributes d).bytes limit used id old r new
-    unfolding entry_of
-    entered_by d name s id r new e x = rw (← e) x
+    tag_stepped : (r : Listed) (d : Defined) (s : Step) (new : List ℕ) → NextDue scope attributes t bound (Some (Tag r))
+        → d ≡ tag_symbol t (get_or t.tags r.place []) → EntryStep (entry_of attributes d) limit used old s new → Steps s new
+    tag_stepped r d s new (tag_due h q e) m x = stepped_by _ r.id q e s new (rw m at x)
 
-    tag_stepped : (name : List ℕ) (s : Symbol) (i id : ℕ) (r : Step) (new : List ℕ) → NextDue scope attributes t bound (Tag i id)
-        → made name s ≡ tag_symbol t (get_or t.tags i []) → EntryStep (le32 s.id ++ attributes_of (made name s) attributes) limit used id old r new
-        → Steps r new
-    tag_stepped name s i id r new (tag_due h q e) m x = stepped_by _ id q e r new (entered_by _ name s id r new m x)
+    other_stepped : (r : Listed) (d : Defined) (s : Step) (new : List ℕ) → NextDue scope attributes t bound (Some (Other r))
+        → d ≡ other_symbol t (get_or t.others r.place []) → EntryStep (entry_of attributes d) limit used old s new → Steps s new
+    other_stepped r d s new (other_due h q e) m x = stepped_by _ r.id q e s new (rw m at x)
 
-    other_stepped : (name : List ℕ) (s : Symbol) (i id : ℕ) (r : Step) (new : List ℕ) → NextDue scope attributes t bound (Other i id)
-        → made name s ≡ other_symbol t (get_or t.others i []) → EntryStep (le32 s.id ++ attributes_of (made name s) attributes) limit used id old r new
-        → Steps r new
-    other_stepped name s i id r new (other_due h q e) m x = stepped_by _ id q e r new (entered_by _ name s id r new m x)
-
-    none_stepped : (new : List ℕ) → NextDue scope attributes t bound Nothing → new ≡ old → Steps Done new
+    none_stepped : (new : List ℕ) → NextDue scope attributes t bound None → new ≡ old → Steps Done new
     none_stepped new (none_due e) p = done e p
 
-module _ (structures tags others : List Row) (names tag_names : List ℕ) (scope bound : ℕ) (found : Next) (is : found ≡ next_in tags others scope bound) where
-  abbrev lent : Tables → Tables
-  lent = for_page structures tags others names tag_names
+module _ (t : Tables) (scope bound : ℕ) where
+  abbrev Found : Option Next → Type 0
+  Found f = f ≡ next_in t.tags t.others scope bound
 
-  module _ (o : Tables) (memory : ℕ) (v : valid (lent o) memory ≡ true) where
+  module _ (o : Tables) (memory : ℕ) (v : valid (page_lent t o) memory ≡ true) where
     abbrev set : Tables
-    set = lent o
+    set = page_lent t o
 
-    due_of : (attributes : List ℕ) (f : Next) → found ≡ f → NextDue scope attributes set bound f
-    due_of attributes f q = rw (← is, q) at (next_due scope attributes set memory v bound)
+    due_of : (attributes : List ℕ) (f : Option Next) → Found f → NextDue scope attributes set bound f
+    due_of attributes f q = rw (← q) at (next_due scope attributes set memory v bound)
 
-    pub tag_step : (attributes : List ℕ) (i id limit used : ℕ) (name : List ℕ) (s : Symbol) (old new : List ℕ) (r : Step) → found ≡ Tag i id
-        → name ≡ tag_name tag_names (get_or tags i []) → TagMade structures (get_or tags i []) s
-        → EntryStep (le32 s.id ++ attributes_of (made name s) attributes) limit used id old r new → Stepped set scope attributes limit used bound old r new
-    tag_step attributes i id limit used name s old new r q n m x =
-        tag_stepped set scope bound attributes limit used old name s i id r new (due_of attributes (Tag i id) q)
-        (rw n (m set)) x
+    module _ (attributes : List ℕ) (limit used : ℕ) (old : List ℕ) where
+      pub tag_step : (f : Next) (r : Listed) (d : Defined) (s : Step) (new : List ℕ) → Found (Some f) → f ≡ Tag r
+          → d ≡ tag_symbol t (get_or t.tags r.place []) → EntryStep (entry_of attributes d) limit used old s new → Stepped set scope attributes limit used bound old s new
+      unfolding tag_symbol
+      tag_step f r d s new q e m x =
+          tag_stepped set scope bound attributes limit used old r d s new (due_of attributes (Some (Tag r)) (ap Some (sym e) ∙ q)) m x
 
-    pub other_step : (attributes : List ℕ) (i id limit used : ℕ) (name : List ℕ) (s : Symbol) (old new : List ℕ) (r : Step) → found ≡ Other i id
-        → name ≡ other_name names (get_or others i []) → OtherMade (get_or others i []) s
-        → EntryStep (le32 s.id ++ attributes_of (made name s) attributes) limit used id old r new → Stepped set scope attributes limit used bound old r new
-    other_step attributes i id limit used name s old new r q n m x =
-        other_stepped set scope bound attributes limit used old name s i id r new (due_of attributes (Other i id) q)
-        (rw n (m set)) x
+      pub other_step : (f : Next) (r : Listed) (d : Defined) (s : Step) (new : List ℕ) → Found (Some f) → f ≡ Other r
+          → d ≡ other_symbol t (get_or t.others r.place []) → EntryStep (entry_of attributes d) limit used old s new → Stepped set scope attributes limit used bound old s new
+      unfolding other_symbol
+      other_step f r d s new q e m x =
+          other_stepped set scope bound attributes limit used old r d s new (due_of attributes (Some (Other r)) (ap Some (sym e) ∙ q)) m x
 
-    pub none_step : (attributes : List ℕ) (limit used : ℕ) (old : List ℕ) → found ≡ Nothing → Stepped set scope attributes limit used bound old Done old
-    none_step attributes limit used old q = none_stepped set scope bound attributes limit used old old (due_of attributes Nothing q) refl
+      pub none_step : Found None → Stepped set scope attributes limit used bound old Done old
+      none_step q = none_stepped set scope bound attributes limit used old old (due_of attributes None q) refl
 
-  module _ (w : SomeValid lent) where
-    here : (f : Next) → found ≡ f → NextDue scope [] (lent w.rest) bound f
-    here = due_of w.rest w.memory w.ok []
+  module _ (w : SomeValid (page_lent t)) where
+    here : (f g : Option Next) → Found f → f ≡ g → NextDue scope [] (page_lent t w.rest) bound g
+    here f g q e = due_of w.rest w.memory w.ok [] g (sym e ∙ q)
 
-    pub tag_there : (i id : ℕ) → found ≡ Tag i id → i < length tags
-    tag_there i id q = tag-inside (lent w.rest) scope bound [] i id (here (Tag i id) q)
+    pub tag_there : (f : Next) (r : Listed) → Found (Some f) → f ≡ Tag r → r.place < length t.tags
+    tag_there f r q e = tag-inside (page_lent t w.rest) scope bound [] r (here (Some f) (Some (Tag r)) q (ap Some e))
 
-    pub other_there : (i id : ℕ) → found ≡ Other i id → i < length others
-    other_there i id q = other-inside (lent w.rest) scope bound [] i id (here (Other i id) q)
+    pub other_there : (f : Next) (r : Listed) → Found (Some f) → f ≡ Other r → r.place < length t.others
+    other_there f r q e = other-inside (page_lent t w.rest) scope bound [] r (here (Some f) (Some (Other r)) q (ap Some e))
 
     -- its row makes a symbol
-    pub tag_listable : (i id : ℕ) → found ≡ Tag i id → ListableRow (get_or tags i [])
-    tag_listable i id q =
-        let t = lent w.rest in
-        let h = tag_there i id q in
-        (access-small t w.memory w.ok i h, (tag-elements t w.memory w.ok i h).0)
+    pub tag_listable : (f : Next) (r : Listed) → Found (Some f) → f ≡ Tag r → ListableRow (get_or t.tags r.place [])
+    tag_listable f r q e =
+        let h = tag_there f r q e in
+        (access-small (page_lent t w.rest) w.memory w.ok r.place h, (tag-elements (page_lent t w.rest) w.memory w.ok r.place h).0)
 
-    -- its name is short
-    pub tag_name_lem : (i id : ℕ) (name : List ℕ) → found ≡ Tag i id → name ≡ tag_name tag_names (get_or tags i []) → length name ≤ 4294967295
-    unfolding valid t2 is_name
-    tag_name_lem i id name q n =
-        let ok = among (every (λ r. is_name (tag_name tag_names r)) tags) _ w.ok (λ e. simp (e, both-none)) in
-        let one = every_at (λ r. is_name (tag_name tag_names r)) [] tags i ok (tag_there i id q) in
-        let k = tag_name tag_names (get_or tags i []) in
-        let l = leb-true (length k) 40 (both_true (leb (length k) 40) _ (both_true (ltb 0 (length k)) _ one).1).0 in
-        rw n (omega (arith, l))
+-- what a step found is a row of the tables that are lent
+module _ (t : Lent) (w : SomeValid (page_lent (tables_of t))) where
+  module _ (scope bound : ℕ) (f : Next) (r : Listed) (q : Some f ≡ next_in t.tags.now t.others.now scope bound) where
+    pub tag_inside : f ≡ Tag r → r.place < length t.tags.now
+    tag_inside e = tag_there (tables_of t) scope bound w f r q e
 
-    pub other_name_lem : (i id : ℕ) (name : List ℕ) → found ≡ Other i id → name ≡ other_name names (get_or others i []) → length name ≤ 4294967295
-    unfolding valid t2
-    other_name_lem i id name q n =
-        let ok = among (every (λ r. is_other_name (other_name names r)) others) _ w.ok (λ e. simp (e, both-none)) in
-        let one = every_at (λ r. is_other_name (other_name names r)) [] others i ok (other_there i id q) in
-        rw n (omega (arith, other_name_has_at_most_48_bytes _ one))
+    pub other_inside : f ≡ Other r → r.place < length t.others.now
+    other_inside e = other_there (tables_of t) scope bound w f r q e
+
+pub ruleset inside = (tag_inside, other_inside)

@@ -1,9 +1,9 @@
--- The bytes of the code's values, and an attribute's value as the definition has it.
-use Rattle.std.specs.Prelude.{ℕ, List, [], ◌∷◌}
-use Rattle.std.proofs.Math.Option.{Option, none, some}
+-- The bytes of the code's values.
+use Rattle.std.specs.Prelude.{ℕ, List, [], ◌∷◌, ◌++◌, length}
 use Rattle.definition.specs.Bytes.{le16, le32}
+use Rattle.definition.specs.Symbols.{three32}
 use Rattle.listing.specs.declared.values.Value.{Value}
-use Rattle.listing.specs.declared.values.Value.TheVariants.{Byte, Short, Long, Reference, Unknown}
+use Rattle.listing.specs.declared.values.Value.TheVariants.{Byte, Short, Long, Lengths, Name, Reference}
 
 -- a program's object: class 0x68 and its instance
 abbrev pub reference : (instance : ℕ) → List ℕ
@@ -13,12 +13,6 @@ abbrev pub value_bytes : Value → List ℕ
 value_bytes (Byte b) = b ∷ []
 value_bytes (Short x) = le16 x
 value_bytes (Long x) = le32 x
+value_bytes (Lengths ns) = three32 ns
+value_bytes (Name name) = le16 (length name.now) ++ name.now
 value_bytes (Reference i) = reference i
-value_bytes Unknown = []
-
-abbrev pub value_of : Value → Option (List ℕ)
-value_of (Byte b) = some (value_bytes (Byte b))
-value_of (Short x) = some (value_bytes (Short x))
-value_of (Long x) = some (value_bytes (Long x))
-value_of (Reference i) = some (value_bytes (Reference i))
-value_of Unknown = none

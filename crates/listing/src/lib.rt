@@ -2,9 +2,9 @@
 #![tactic(auto)]
 
 pub mod attributes;
-pub mod entries;
+pub mod numbers;
 pub mod pages;
 pub mod requests;
 pub mod symbols;
 pub mod templates;
-pub mod values;
+mod values;

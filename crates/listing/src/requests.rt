@@ -1,115 +1,62 @@
 // Item 13: a request for a page of the symbols of a scope.
-ghost use Rattle.std.specs.Prelude.{◌≡◌, suc, ◌<◌, ◌≤◌, true, length};
+ghost use Rattle.std.specs.Prelude.{◌≡◌, ◌≤◌, true, length};
 ghost use Rattle.laws.specs.Pick.{is_some};
 ghost use Rattle.definition.specs.Reply.{room};
 ghost use Rattle.definition.specs.Segment.{segments, segments_from};
-ghost use Rattle.model.specs.Tables.{SomeValid, for_list};
-ghost use Rattle.listing.specs.Pages.{first_of, BeginsAt, PageBegins, Lists};
+ghost use Rattle.model.specs.Tables.{tables_of, SomeValid};
+ghost use Rattle.listing.specs.Pages.{list_lent, BeginsAt, PageBegins, Lists};
 
-use crate::attributes::Count;
-use crate::{attributes, pages};
+use crate::attributes;
+use crate::numbers::Numbers;
+use crate::pages::{Page, Start};
+use cip::Status;
 use cip::codes::SYMBOL_CLASS;
-use cip::{Status, numbers};
-use model::lookup::Found;
-use path::{Object, Segment};
-
-/// Where a page starts: a scope and the start ID; or a path that no page has.
-#[derive(Clone, Copy)]
-pub enum Begin {
-    From(u32, u32),
-    Unknown,
-}
-
-/// What a path starts with: a name by its start and length and where the next segment starts, or another segment.
-#[derive(Clone, Copy)]
-enum First {
-    Name(usize, usize, usize),
-    Other,
-}
-
-fn first_of(s: Segment) -> First
-    ensures { result ≡ first_of s }
-{
-    match s {
-        Segment::Symbol(start, n, next) => First::Name(start, n, next),
-        Segment::Port(_) => First::Other,
-        Segment::Class(_, _) => First::Other,
-        Segment::Instance(_, _) => First::Other,
-        Segment::Element(_, _) => First::Other,
-        Segment::Attribute(_, _) => First::Other,
-        Segment::Invalid => First::Other,
-    }
-}
-
-/// A program's scope is its position plus one; 0 is the controller's.
-fn scope_of(k: usize) -> u32
-    requires { k < 65535 }
-    ensures { result ≡ suc k }
-{
-    k as u32 + 1
-}
+use model::Tables;
+use path::{Request, Segment};
 
 /// The start in a scope: class 0x6B and the start ID, and nothing more.
-fn start_in(path: &[u8], at: usize, scope: u32) -> Begin
+#[tactic(auto, using(crate::proofs::Starts::in_scope))]
+fn start_in(path: &[u8], at: usize, scope: u32) -> Option<Start>
     requires { is_some (segments_from path.now at) ≡ true }
     ensures { BeginsAt path.now at scope result }
 {
-    let Object::Of(class, id, next) = path::object_at(path, at) else {
-        return Begin::Unknown;
-    };
-    if class != SYMBOL_CLASS {
-        return Begin::Unknown;
+    let object = path::object_at(path, at)?;
+    if object.class != SYMBOL_CLASS || object.next < path.len() {
+        return None;
     }
-    if next < path.len() {
-        return Begin::Unknown;
-    }
-    Begin::From(scope, id)
+    Some(Start {
+        scope,
+        id: object.instance,
+    })
 }
 
-/// The start of the page that a path asks for: in the scope of a known program, if its name comes first.
-pub fn page_start(programs: &[[u32; 2]], names: &[u8], path: &[u8]) -> Begin
-    requires { (is_some (segments path.now) ≡ true) × (length programs.now ≤ 65535) }
-    ensures { PageBegins programs.now names.now path.now result }
+/// The start of the page that a path asks for: in the scope of a known program, if its name comes first. A program's scope is its
+/// position plus one; 0 is the controller's.
+pub fn page_start(t: &Tables, path: &[u8]) -> Option<Start>
+    requires { (is_some (segments path.now) ≡ true) × (length t.now.programs.now ≤ 65535) }
+    ensures { PageBegins (tables_of t.now) path.now result }
 {
-    let First::Name(start, n, next) = first_of(path::segment_at(path, 0)) else {
+    let first = path::segment_at(path, 0)?;
+    let Segment::Symbol(name) = first.segment else {
         return start_in(path, 0, 0);
     };
-    match attributes::program_of(programs, names, path::symbol_name(path, start, n)) {
-        Found::At(k) => start_in(path, next, scope_of(k)),
-        Found::Nothing => Begin::Unknown,
-    }
+    let program = attributes::program_of(t, name)?;
+    start_in(path, first.next, program as u32 + 1)
 }
 
 /// Item 13: a page of the symbols of a scope (0x55).
-pub fn list_symbols(
-    structures: &[[u32; 10]],
-    programs: &[[u32; 2]],
-    tags: &[[u32; 12]],
-    others: &[[u32; 5]],
-    names: &[u8],
-    tag_names: &[u8],
-    service: u8,
-    path: &[u8],
-    body: &[u8],
-    limit: usize,
-    buf: &mut [u8],
-) -> usize
-    requires { (is_some (segments path.now) ≡ true) × SomeValid
-        (for_list structures.now programs.now tags.now others.now names.now tag_names.now) × (room limit ≤ length buf.old) }
-    ensures { Lists structures.now programs.now tags.now others.now names.now
-        tag_names.now service path.now body.now limit buf.old result buf.new }
+pub fn list_symbols(t: &Tables, q: Request, limit: usize, buf: &mut [u8]) -> usize
+    requires { (is_some (segments q.path.now) ≡ true) × SomeValid (list_lent (tables_of t.now)) × (room limit ≤ length buf.old) }
+    ensures { Lists (tables_of t.now) q.entry limit buf.old result buf.new }
 {
-    let Begin::From(scope, start) = page_start(programs, names, path) else {
-        return cip::fail(buf, limit, service, Status::PathUnknown);
+    let Some(start) = page_start(t, q.path) else {
+        return cip::fail(buf, limit, q.service, Status::PathUnknown);
     };
-    let Count::Of(count) = attributes::count_of(body) else {
-        return cip::fail(buf, limit, service, Status::TooShort);
+    let Some(numbers) = Numbers::read(q.body) else {
+        return cip::fail(buf, limit, q.service, Status::TooShort);
     };
-    let n = numbers::wide16(count);
-    if pages::all_listed(body, n) {
-        return pages::put_page(
-            structures, tags, others, names, tag_names, scope, start, body, n, service, limit, buf,
-        );
+    if !numbers.all_listed() {
+        return cip::fail(buf, limit, q.service, Status::NoAttribute);
     }
-    cip::fail(buf, limit, service, Status::NoAttribute)
+    Page { start, numbers }.put(t, q.service, limit, buf)
 }

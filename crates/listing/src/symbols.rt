@@ -1,78 +1,147 @@
-// Table rows as the symbols that a page lists.
-ghost use Rattle.std.specs.Prelude.{◌≡◌, ◌%◌, ◌≤◌, [], ◌∷◌, length, slice_index};
+// The symbols that a page lists: table rows made symbols, and a symbol's entry, its ID and then the listed attributes.
+ghost use Rattle.std.specs.Prelude.{◌≡◌, ◌+◌, ◌*◌, ◌%◌, ◌≤◌, [], ◌∷◌, length, get_or};
 ghost use Rattle.laws.specs.Pick.{pick};
-ghost use Rattle.definition.specs.Tables.{nonzero};
+ghost use Rattle.laws.specs.Put.{put};
+ghost use Rattle.definition.specs.Tables.{nonzero, other_name};
 ghost use Rattle.definition.specs.Lookup.{marked};
-ghost use Rattle.definition.specs.Symbols.{base_tag};
-ghost use Rattle.listing.specs.Entries.{ListableRow, TagMade, OtherMade};
+ghost use Rattle.definition.specs.Symbols.{symbol_attribute, attributes_of, base_tag, tag_symbol, other_symbol};
+ghost use Rattle.cip.specs.Writes.{Written};
+ghost use Rattle.model.specs.Tables.{tables_of};
+ghost use Rattle.listing.specs.Numbers.{numbers_in};
+ghost use Rattle.listing.specs.Values.{value_bytes};
 
-use crate::entries::Symbol;
+use crate::numbers::{self, Numbers};
+use crate::values::Value;
 use model::columns::{
-    OTHER_ID, OTHER_TYPE, TAG_ACCESS, TAG_ALIAS, TAG_ID, TAG_LENGTH_1, TAG_LENGTH_2, TAG_LENGTH_3,
-    TAG_TYPE,
+    OTHER_ID, OTHER_NAME_LENGTH, OTHER_NAME_START, OTHER_TYPE, TAG_ACCESS, TAG_ALIAS, TAG_ID,
+    TAG_LENGTH_1, TAG_LENGTH_2, TAG_LENGTH_3, TAG_NAME_LENGTH, TAG_NAME_START, TAG_TYPE,
 };
+use model::{Tables, lookup, shapes, types};
+
+/// A symbol's attributes, as a page sends them. A row has the length of a name in 32 bits.
+#[derive(Clone, Copy)]
+pub struct Symbol<'a> {
+    pub id: u32,
+    pub name: &'a [u8],
+    pub kind: u32,
+    pub control: u32,
+    pub size: u32,
+    pub lengths: [u32; 3],
+    pub access: u8,
+    pub ghost short_name: { length name.now ≤ 4294967295 },
+}
+
+impl<'a> Symbol<'a> {
+    ghost use Rattle.listing.specs.Entries.{made, ListableRow};
+
+    /// A tag, whose access is at most 3 and which has elements, as where the tables are valid.
+    pub fn of_tag(t: &Tables<'a>, row: &[u32; 12]) -> Symbol<'a>
+        requires { ListableRow row.now }
+        ensures { made result ≡ tag_symbol (tables_of t.now) row.now }
+    {
+        let own = [row[TAG_LENGTH_1], row[TAG_LENGTH_2], row[TAG_LENGTH_3]];
+        let [listed, _] = shapes::shapes(row);
+        Symbol {
+            id: row[TAG_ID],
+            name: lookup::part_of(t.tag_names, row[TAG_NAME_START], row[TAG_NAME_LENGTH]),
+            kind: types::symbol_type(t.structures, row[TAG_TYPE], count_lengths(own)),
+            control: control_of(row[TAG_ALIAS]),
+            size: t.element_size(row[TAG_TYPE]),
+            lengths: listed,
+            access: row[TAG_ACCESS] as u8,
+        }
+    }
+
+    #[tactic(auto, unfolding(definition::specs::Symbols::other_symbol))]
+    pub fn of_other(t: &Tables<'a>, row: &[u32; 5]) -> Symbol<'a>
+        ensures { made result ≡ other_symbol (tables_of t.now) row.now }
+    {
+        Symbol {
+            id: row[OTHER_ID],
+            name: other_name(t, row),
+            kind: row[OTHER_TYPE],
+            control: 0,
+            size: 0,
+            lengths: [0, 0, 0],
+            access: 0,
+        }
+    }
+
+    /// An attribute's value.
+    #[tactic(auto, using(crate::proofs::Made::values), unfolding(definition::specs::Symbols::symbol_attribute))]
+    fn value(&self, number: u16) -> Value<'a>
+        ensures { value_bytes result ≡ symbol_attribute (made self.now) number }
+    {
+        match number {
+            1 => Value::Name(self.name),
+            2 => Value::Short(cip::low16(self.kind as usize)),
+            3 => Value::Long(address_of(self.id, 0x100, 0x100000)),
+            5 => Value::Long(address_of(self.id, 0x40, 0x2000)),
+            6 => Value::Long(self.control),
+            7 => Value::Short(cip::low16(self.size as usize)),
+            8 => Value::Lengths(self.lengths),
+            _ => Value::Byte(self.access),
+        }
+    }
+
+    /// The bytes of the entry: its ID has four.
+    pub fn entry_size(&self, numbers: &Numbers) -> usize
+        ensures { result ≡ 4 + length (attributes_of (made self.now) (numbers_in numbers.now)) }
+    {
+        let mut used = 4;
+        for pair in numbers.pairs {
+            used += self.value(numbers::word(pair)).size();
+        }
+        used
+    }
+
+    /// Writes the entry's attributes, which fit; returns where they end.
+    pub fn put_attributes(&self, numbers: &Numbers, buf: &mut [u8], at: usize) -> usize
+        requires { at + length (attributes_of (made self.now) (numbers_in numbers.now)) ≤ length buf.old }
+        ensures end { result ≡ at + length (attributes_of (made self.now) (numbers_in numbers.now)) }
+        ensures bytes { buf.new ≡ put buf.old at (attributes_of (made self.now) (numbers_in numbers.now)) }
+    {
+        let mut used = at;
+        for pair in numbers.pairs {
+            used += self.value(numbers::word(pair)).put(buf, used);
+        }
+        used
+    }
+}
+
+/// An ID times a factor plus an offset, modulo 2^32.
+fn address_of(id: u32, factor: u32, offset: u32) -> u32
+    ensures { result ≡ (id * factor + offset) % 4294967296 }
+{
+    id.wrapping_mul(factor).wrapping_add(offset)
+}
 
 /// Attribute 6 of a tag that is no alias.
 const BASE_TAG: u32 = 0x4000000;
 
 /// Nonzero lengths stand first.
 fn count_lengths(lengths: [u32; 3]) -> u32
-    ensures { (result ≡ length (nonzero (slice_index lengths 0 ∷ slice_index lengths 1 ∷ slice_index lengths 2 ∷ []))) × (result ≤ 3) }
+    ensures count { result ≡ length (nonzero lengths) }
+    ensures three { result ≤ 3 }
 {
-    if lengths[0] == 0 {
-        return 0;
+    match lengths {
+        [0, _, _] => 0,
+        [_, 0, _] => 1,
+        [_, _, 0] => 2,
+        _ => 3,
     }
-    if lengths[1] == 0 {
-        return 1;
-    }
-    if lengths[2] == 0 {
-        return 2;
-    }
-    3
 }
 
 fn control_of(alias: u32) -> u32
     ensures { result ≡ pick (marked alias) 0 base_tag }
 {
-    if alias == 1 {
-        return 0;
-    }
-    BASE_TAG
+    if alias == 1 { 0 } else { BASE_TAG }
 }
 
-fn low8(x: u32) -> u8
-    ensures { result ≡ x % 256 }
+/// The name of another symbol.
+pub(crate) fn other_name<'a>(t: &Tables<'a>, row: &[u32; 5]) -> &'a [u8]
+    ensures name { result.now ≡ other_name t.now.names.now row.now }
+    ensures short { length result.now ≤ 4294967295 }
 {
-    (x % 256) as u8
-}
-
-/// A tag, whose access is at most 3 and which has elements, as where the tables are valid.
-pub fn tag_symbol(structures: &[[u32; 10]], row: &[u32; 12]) -> Symbol
-    requires { ListableRow row.now }
-    ensures { TagMade structures.now row.now result }
-{
-    let own = [row[TAG_LENGTH_1], row[TAG_LENGTH_2], row[TAG_LENGTH_3]];
-    let shapes = model::shapes::shapes(row);
-    let listed = shapes[0];
-    Symbol {
-        id: row[TAG_ID],
-        kind: model::types::symbol_type(structures, row[TAG_TYPE], count_lengths(own)),
-        control: control_of(row[TAG_ALIAS]),
-        size: model::types::element_size(structures, row[TAG_TYPE]),
-        lengths: listed,
-        access: low8(row[TAG_ACCESS]),
-    }
-}
-
-pub fn other_symbol(row: &[u32; 5]) -> Symbol
-    ensures { OtherMade row.now result }
-{
-    Symbol {
-        id: row[OTHER_ID],
-        kind: row[OTHER_TYPE],
-        control: 0,
-        size: 0,
-        lengths: [0, 0, 0],
-        access: 0,
-    }
+    lookup::part_of(t.names, row[OTHER_NAME_START], row[OTHER_NAME_LENGTH])
 }

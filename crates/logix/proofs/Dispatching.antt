@@ -1,33 +1,29 @@
--- A request by its split: malformed, an envelope, or any other; a part that is no envelope is dispatched as a message is.
+-- A message by its request: malformed, an envelope, or any other; a part that is no envelope is dispatched as a message is.
 -- Assumes nothing.
-use mathlib.Core.Path.{◌≡◌, refl, sym, ◌∙◌}
+use mathlib.Core.Path.{◌≡◌, refl, sym, ap, ◌∙◌}
 use mathlib.Core.Bool.{Bool, true, false, not}
-use mathlib.Core.List.{List, ◌∷◌, ◌++◌}
-use mathlib.Core.Option.{Option, none, some}
+use mathlib.Core.List.{List, ◌++◌}
+use Rattle.std.specs.Prelude.{Option, None, Some}
 use Prim.Native.Nat.{ℕ, ◌+◌, ◌-◌, ◌*◌, ◌<◌, ◌≤◌}
 use native.Mathlib.Omega.{arith}
 use lib.Dec.{ltb, eqb}
 use lib.ListN.{length, get_or, take, drop, length-drop}
-use borrow.Author.Tests.{eq-eqb, ne_eqb, not-true, not-false}
+use borrow.Author.Tests.{ltb-false, eq-eqb, ne_eqb, not-true, not-false}
 use Rattle.laws.specs.Pick.{pick, both, is_some}
 use Rattle.laws.proofs.Chain.{by_test, clash}
 use Rattle.definition.specs.Bytes.{u16_at, part}
 use Rattle.definition.specs.Reply.{reply, room, fail, path_error, not_supported, too_short}
-use Rattle.definition.specs.Segment.{Segment, class, instance, segments}
-use Rattle.definition.specs.Request.{with_path, request_of, object_of}
+use Rattle.definition.specs.Segment.{Segment, segments}
+use Rattle.definition.specs.Request.{malformed, request, with_path, request_of, object_of}
 use Rattle.definition.specs.Tables.{Tables, Flags, takes_envelopes}
 use Rattle.definition.specs.Envelope.{Dispatcher, part_answer, parts_of, run_parts, close_envelope, envelope, envelope_service}
 use Rattle.definition.specs.Answer.{plain, part_dispatch, is_router, any_request, plain_request, answer}
 use Rattle.definition.proofs.Replies.{Proper, proper_answer}
 use Rattle.cip.specs.Writes.{Laid}
-use Rattle.path.proofs.Laws.{Requested, split_request, split_malformed}
-use Rattle.path.specs.Paths.{split_of, ObjectFound, ObjectAt}
-use Rattle.path.specs.declared.Split.{Split}
-use Rattle.path.specs.declared.Split.TheVariants.{Path, Malformed}
+use Rattle.path.specs.Paths.{Split}
+use Rattle.path.specs.declared.Request.{Request}
 use Rattle.services.specs.Answers.{Answers, OnPath}
 use Rattle.logix.specs.Answered.{EnvelopeTest}
-use Rattle.path.specs.declared.Object.{Object}
-use Rattle.path.specs.declared.Object.TheVariants.{Of, Nothing}
 use Rattle.logix.proofs.Offsets.{HasParts}
 use Rattle.logix.specs.Placed.{Copied, PartAnswers}
 use Rattle.logix.specs.declared.parts.PartReply.{PartReply}
@@ -35,77 +31,67 @@ use Rattle.laws.proofs.Parts.{to_end}
 use Rattle.logix.proofs.Placing.{copied_placed, in_the_tail, by_scratch}
 use Rattle.logix.proofs.Going.{parts_in, parts_in_long}
 
--- ---- the test for an envelope
+-- ---- the answer by the message's request
 
-module _ (service : ℕ) (path : List ℕ) where
-  pub other-service : (service ≡ 0x0A → ⊥) → EnvelopeTest service path false
-  other-service h = record { is = λ l e. rw (ne_eqb service 0x0A h) }
+-- the segments of a path that decodes
+record Decodes (path : List ℕ) : Type 0 where
+  list : List Segment
+  is : segments path ≡ Some list
 
-  at_there : (c i next : ℕ) (r : Bool) → service ≡ 0x0A → ObjectFound path 0 c i next → r ≡ both (eqb c 0x02) (eqb i 1) → EnvelopeTest service path r
-  at_there c i next r h o q = record {
-    is = λ l e.
-        let k : some l ≡ some (class c ∷ (instance i ∷ o.rest)) = sym e ∙ o.is in
-        let same : l ≡ class c ∷ (instance i ∷ o.rest) = cc k in
-        rw (eq-eqb service 0x0A h, same) q;
-  }
+decodes_by : (path : List ℕ) (o : Option (List Segment)) → segments path ≡ o → is_some o ≡ true → Decodes path
+decodes_by path None e h = clash (cc h)
+decodes_by path (Some l) e h = record { list = l; is = e }
 
-  pub at_object : (o : Object) (c i next : ℕ) (r : Bool) → service ≡ 0x0A → o ≡ Of c i next → ObjectAt path 0 o → r ≡ both (eqb c 0x02) (eqb i 1)
-      → EnvelopeTest service path r
-  at_object o c i next r h k a q = at_there c i next r h (rw k at a) q
+-- a request's data is shorter than its message
+body_by : (service : ℕ) (o : Option (List Segment)) (body : List ℕ) (s : ℕ) (l : List Segment) (b : List ℕ) → with_path service o body ≡ request s l b → body ≡ b
+body_by service None body s l b e = clash (cc e)
+body_by service (Some path) body s l b e = cc e
 
-  without_there : service ≡ 0x0A → ObjectAt path 0 Nothing → EnvelopeTest service path false
-  without_there h n = record { is = λ l e. rw (eq-eqb service 0x0A h, n l e) }
-
-  pub without_object : (o : Object) → service ≡ 0x0A → o ≡ Nothing → ObjectAt path 0 o → EnvelopeTest service path false
-  without_object o h k a = without_there h (rw k at a)
-
-pub ruleset objects = (at_object, without_object)
-
--- ---- the answer by the split of the message
-
-pub path-fits : (message : List ℕ) (split : Split) (size : ℕ) → split ≡ split_of message → split ≡ Path size → 2 + size ≤ length message
-path-fits message split size is e = (split_request message size (sym is ∙ e)).fits
-
-pub segments_there : (message path : List ℕ) (split : Split) (size : ℕ) → split ≡ split_of message → split ≡ Path size → path ≡ part message 2 size
-    → is_some (segments path) ≡ true
-segments_there message path split size is e p = rw (p, (split_request message size (sym is ∙ e)).segments_are)
-
-pub body-shorter : (message body : List ℕ) (split : Split) (size : ℕ) → split ≡ split_of message → split ≡ Path size → body ≡ drop (2 + size) message
-    → length body < length message
-body-shorter message body split size is e q = rw (q, length-drop) (omega (arith, path-fits message split size is e))
+data_shorter : (m : List ℕ) (s : ℕ) (l : List Segment) (b : List ℕ) → request_of m ≡ request s l b → length b < length m
+unfolding request_of
+data_shorter m s l b e =
+    let size = 2 * get_or m 1 0 in
+    by_test (ltb (length m) (2 + size)) (λ t. clash (cc (rw t at e)))
+    (λ t.
+    let h = ltb-false (length m) (2 + size) t in
+    let is : drop (2 + size) m ≡ b = body_by (get_or m 0 0) (segments (part m 2 size)) (drop (2 + size) m) s l b (rw t at e) in
+    let n : length b ≡ length m - (2 + size) = ap length (sym is) ∙ length-drop (2 + size) m in
+    omega (arith, n, h))
 
 module _ (t : Tables) (f : Flags) (memory message : List ℕ) (limit : ℕ) (old : List ℕ) (r : ℕ) (new after : List ℕ) where
   abbrev Answered : Type 0
   Answered = Answers limit (answer t f memory message limit) old r new after
 
-  pub answer-malformed : (s : Split) (service : ℕ) → s ≡ split_of message → s ≡ Malformed → service ≡ get_or message 0 0
+  pub answer-malformed : (service : ℕ) → request_of message ≡ malformed → service ≡ get_or message 0 0
       → Laid limit (fail service path_error) old r new → after ≡ memory → Answered
   unfolding answer
-  answer-malformed s service q e n l k =
-      rw (split_malformed message (sym q ∙ e), ← n) (record { length_is = l.length_is; buffer_is = l.buffer_is; memory_is = k })
+  answer-malformed service m n l k = rw (m, ← n) (record { length_is = l.length_is; buffer_is = l.buffer_is; memory_is = k })
 
-  module _ (split : Split) (size service : ℕ) (path body : List ℕ) (is : split ≡ split_of message) (e : split ≡ Path size) (s : service ≡ get_or message 0 0)
-      (p : path ≡ part message 2 size)
-      (q : body ≡ drop (2 + size) message) where
-    abbrev asked : Requested message size
-    asked = split_request message size (sym is ∙ e)
+  module _ (q : Request) (split : Split message q) where
+    decoded : Decodes q.path.now
+    decoded = decodes_by q.path.now (segments q.path.now) refl split.decodes
 
-    segments_are : segments path ≡ some asked.path
-    segments_are = rw p asked.segments_are
+    request_is : request_of message ≡ request q.service decoded.list q.body.now
+    request_is = split.is ∙ ap (λ o. with_path q.service o q.body.now) decoded.is
 
     answer_is : answer t f memory message limit
-        ≡ pick (both (eqb service envelope_service) (is_router (object_of asked.path))) (envelope f (part_dispatch t f) memory body limit)
-        (plain t f memory service asked.path body limit)
+        ≡ pick (both (eqb q.service envelope_service) (is_router (object_of decoded.list))) (envelope f (part_dispatch t f) memory q.body.now limit)
+        (plain t f memory q.service decoded.list q.body.now limit)
     unfolding answer
-    answer_is = rw (asked.request_is, s, q)
+    answer_is = rw request_is refl
 
-    pub answer-envelope : (b : Bool) → EnvelopeTest service path b → b ≡ true
-        → Answers limit (envelope f (part_dispatch t f) memory body limit) old r new after → Answered
-    answer-envelope b test on a = rw (answer_is, ← (test.is asked.path segments_are), on) a
+    pub answer-envelope : (b : Bool) → EnvelopeTest q.service q.path.now b → b ≡ true
+        → Answers limit (envelope f (part_dispatch t f) memory q.body.now limit) old r new after → Answered
+    answer-envelope b test on a = rw (answer_is, ← (test.is decoded.list decoded.is), on) a
 
-    pub answer-plain : (b : Bool) → EnvelopeTest service path b → b ≡ false → OnPath path limit (λ l. plain t f memory service l body limit) old r new after
-        → Answered
-    answer-plain b test off a = rw (answer_is, ← (test.is asked.path segments_are), off) (a.is asked.path segments_are)
+    pub answer-plain : (b : Bool) → EnvelopeTest q.service q.path.now b → b ≡ false
+        → OnPath q.path.now limit (λ l. plain t f memory q.service l q.body.now limit) old r new after → Answered
+    answer-plain b test off a = rw (answer_is, ← (test.is decoded.list decoded.is), off) (a.is decoded.list decoded.is)
+
+pub body-shorter : (message : List ℕ) (q : Request) → Split message q → length q.body.now < length message
+body-shorter message q split =
+    let decoded = decodes_by q.path.now (segments q.path.now) refl split.decodes in
+    data_shorter message q.service decoded.list q.body.now (split.is ∙ ap (λ o. with_path q.service o q.body.now) decoded.is)
 
 -- ---- a part that does not start with 0x0A is answered as a message is
 
@@ -115,8 +101,8 @@ module _ (t : Tables) (f : Flags) (memory p : List ℕ) (budget service : ℕ) (
 
   agree_by : (o : Option (List Segment)) (body : List ℕ)
       → any_request t f memory p (with_path (get_or p 0 0) o body) budget ≡ plain_request t f memory p (with_path (get_or p 0 0) o body) budget
-  agree_by none body = refl
-  agree_by (some path) body = rw not-envelope
+  agree_by None body = refl
+  agree_by (Some path) body = rw not-envelope
 
   pub part_agrees : answer t f memory p budget ≡ part_answer (part_dispatch t f) memory p budget
   unfolding answer part_answer part_dispatch request_of
@@ -176,15 +162,15 @@ module _ (f : Flags) (d : Dispatcher) (memory body : List ℕ) (limit : ℕ) (ol
   unfolding envelope
   envelope_off b e n l k = rw (← e, not-true b n) (record { length_is = l.length_is; buffer_is = l.buffer_is; memory_is = k })
 
-  no_parts : (o : Option (List (List ℕ))) → is_some o ≡ false → o ≡ none
-  no_parts none e = refl
-  no_parts (some x) e = clash (cc e)
+  no_parts : (o : Option (List (List ℕ))) → is_some o ≡ false → o ≡ None
+  no_parts None e = refl
+  no_parts (Some x) e = clash (cc e)
 
-  pub envelope-short : (b c : Bool) → b ≡ takes_envelopes f → not b ≡ false → c ≡ is_some (parts_of body) → not c ≡ true
+  pub envelope-short : (b : Bool) → b ≡ takes_envelopes f → not b ≡ false → is_some (parts_of body) ≡ false
       → Laid limit (fail envelope_service too_short) old r new → after ≡ memory → Enveloped
   unfolding envelope
-  envelope-short b c e n h m l k =
-      rw (← e, not-false b n, no_parts (parts_of body) (sym h ∙ not-true c m)) (record { length_is = l.length_is; buffer_is = l.buffer_is; memory_is = k })
+  envelope-short b e n h l k =
+      rw (← e, not-false b n, no_parts (parts_of body) h) (record { length_is = l.length_is; buffer_is = l.buffer_is; memory_is = k })
 
   pub envelope_runs : (b : Bool) (count : ℕ) → b ≡ takes_envelopes f → not b ≡ false → HasParts body → count ≡ u16_at body 0
       → Answers limit (close_envelope limit (run_parts d limit (6 + 2 * count) (parts_in body count) memory)) old r new after → Enveloped

@@ -1,7 +1,7 @@
 -- The loop over an envelope's parts: what holds before each part, and what is left of it at the end.
 -- Assumes nothing.
 use mathlib.Core.Path.{◌≡◌, refl, sym, ap, ◌∙◌}
-use mathlib.Core.Bool.{Bool, true, false}
+use mathlib.Core.Bool.{Bool, true, false, ◌&&◌}
 use mathlib.Core.List.{List, [], ◌∷◌, ◌++◌, append-nil}
 use Prim.Native.Nat.{ℕ, suc, ◌+◌, ◌-◌, ◌*◌, ◌≤◌, ◌<◌}
 use native.Mathlib.Omega.{arith}
@@ -20,9 +20,10 @@ use Rattle.definition.specs.Bytes.{le16, numbers, part}
 use Rattle.definition.specs.Reply.{Answer, answered, Status, general, extended, reply, room, fail, too_large}
 use Rattle.definition.specs.Envelope.{Dispatcher, part_answer, parts_from, run_parts, and_reply, join_all, offsets_from, envelope_reply, close_envelope, envelope_service}
 use Rattle.services.specs.Answers.{Answers}
-use Rattle.logix.specs.Placed.{PartOf, PartAnswers, marked, outcome_of, Closed}
+use Rattle.logix.specs.Marked.{PartOf}
+use Rattle.logix.specs.Placed.{PartAnswers, marked, outcome_of, Closed}
 use Rattle.logix.specs.declared.parts.PartReply.{PartReply}
-use Rattle.listing.proofs.Lists.{numbers_long}
+use Rattle.definition.proofs.Numbers.{numbers_long}
 use Rattle.logix.proofs.Offsets.{parts_long}
 use Rattle.logix.proofs.Placing.{marked-put, marked_rest}
 use Rattle.laws.proofs.Parts.{part_stays, part_grows, laid-drop}
@@ -49,7 +50,6 @@ pub record Going (d : Dispatcher) (mem₀ body : List ℕ) (limit : ℕ) (old : 
   pub replies : used ≤ limit → part buf (6 + 2 * count) (used - (6 + 2 * count)) ≡ join_all done
   pub rest : drop (room limit) buf ≡ drop (room limit) old
   pub bound : used ≤ limit + 6 + 2 * count + 8 * i
-  pub turn : i ≤ count
   pub small : count ≤ 65535
   pub long : length buf ≡ length old
   pub wide : length mem ≡ length mem₀
@@ -67,11 +67,15 @@ going_start d mem body limit buf count h = record {
   replies = λ _. rw sub_self;
   rest = refl;
   bound = omega arith;
-  turn = omega arith;
   small = h;
   long = refl;
   wide = refl;
 }
+
+-- the language's "and" is the definition's
+and_both : (a b : Bool) → a && b ≡ both a b
+and_both true b = refl
+and_both false b = refl
 
 module _ (d : Dispatcher) (mem₀ body : List ℕ) (limit : ℕ) (old : List ℕ) (count : ℕ) (mem buf : List ℕ) (used : ℕ) (fine : Bool) (i : ℕ)
     (g : Going d mem₀ body limit old count mem buf used fine i) where
@@ -134,14 +138,13 @@ module _ (d : Dispatcher) (mem₀ body : List ℕ) (limit : ℕ) (old : List ℕ
         replies = replies_on;
         rest = q.placed.rest ∙ marked_rest limit used i buf mid m (omega (arith, g.size)) (omega (arith, g.long)) ∙ g.rest;
         bound = omega (arith, q.least, g.bound);
-        turn = omega arith;
         small = g.small;
         long = same' ∙ same ∙ g.long;
         wide = wide' ∙ g.wide;
       }
 
-      pub going_more : (f : Bool) → f ≡ both fine r.fine → Going d mem₀ body limit old count mem' new (used + r.len) f (i + 1)
-      going_more f e = rw (e, q.placed.length_is) going_sum
+      pub going_more : Going d mem₀ body limit old count mem' new (used + r.len) (fine && r.fine) (i + 1)
+      going_more = rw (and_both fine r.fine, q.placed.length_is) going_sum
 
   -- ---- the end
 

@@ -3,7 +3,7 @@
 use mathlib.Core.Path.{◌≡◌, refl, sym, ap, ◌∙◌}
 use mathlib.Core.Bool.{Bool, true, false}
 use mathlib.Core.List.{List, [], ◌∷◌}
-use mathlib.Core.Option.{none, some}
+use Rattle.std.specs.Prelude.{None, Some}
 use Prim.Native.Nat.{ℕ, zero, suc, ◌+◌, ◌-◌, ◌*◌, ◌≤◌, ◌<◌}
 use native.Mathlib.Omega.{arith}
 use native.Mathlib.Numerals.{add-one}
@@ -16,16 +16,10 @@ use Rattle.laws.proofs.Chain.{by_test, clash}
 use Rattle.laws.proofs.Tests.{both_true}
 use Rattle.definition.specs.Bytes.{u16_at, numbers, part, counted}
 use Rattle.definition.specs.Envelope.{ascending, parts_from, parts_of}
-use Rattle.listing.proofs.Lists.{u16_drop, numbers_long}
-use Rattle.logix.specs.Placed.{mark_at, PartOf}
+use Rattle.definition.proofs.Numbers.{u16_drop, numbers_long, numbers_at}
+use Rattle.logix.specs.Marked.{mark_at, PartOf}
 
--- ---- the numbers of a list by their index
-
-numbers_at : (n : ℕ) (s : List ℕ) (i d : ℕ) → i < n → get_or (numbers n s) i d ≡ u16_at s (2 * i)
-unfolding numbers
-numbers_at zero s i d h = absurd (omega arith)
-numbers_at (suc n) s zero d h = refl
-numbers_at (suc n) s (suc i) d h = numbers_at n (drop 2 s) i d (omega arith) ∙ u16_drop s 2 (2 * i) (2 * suc i) (omega arith)
+-- ---- the offset of a part
 
 module _ (body : List ℕ) (count i : ℕ) where
   pub mark_in : (x r : ℕ) → i < count → x ≡ u16_at body (2 + 2 * i) → r ≡ x → r ≡ mark_at body count i
@@ -114,18 +108,18 @@ parts_at body (o ∷ (p ∷ rest)) (suc i) h = parts_at body (p ∷ rest) i (ome
 -- ---- a body that has its parts
 
 pub record HasParts (body : List ℕ) : Type 0 where
-  pub is : parts_of body ≡ some (parts_from body (numbers (u16_at body 0) (drop 2 body)))
+  pub is : parts_of body ≡ Some (parts_from body (numbers (u16_at body 0) (drop 2 body)))
   pub long : 2 + 2 * u16_at body 0 ≤ length body
   pub order : ascending (2 + 2 * u16_at body 0) (numbers (u16_at body 0) (drop 2 body)) (length body) ≡ true
 
 module _ (body : List ℕ) where
-  parts_missing : length body < 2 + 2 * u16_at body 0 → parts_of body ≡ none
+  parts_missing : length body < 2 + 2 * u16_at body 0 → parts_of body ≡ None
   unfolding parts_of counted
   parts_missing h = rw (lt-ltb (length body) (2 + 2 * u16_at body 0) h)
 
   parts_by : 2 + 2 * u16_at body 0 ≤ length body
       → parts_of body ≡ pick (ascending (2 + 2 * u16_at body 0) (numbers (u16_at body 0) (drop 2 body)) (length body))
-      (some (parts_from body (numbers (u16_at body 0) (drop 2 body)))) none
+      (Some (parts_from body (numbers (u16_at body 0) (drop 2 body)))) None
   unfolding parts_of counted
   parts_by h = rw (le-ltb (length body) (2 + 2 * u16_at body 0) h, numbers_long)
 
@@ -135,7 +129,7 @@ module _ (body : List ℕ) where
   pub has_few : length body < 2 → false ≡ is_some (parts_of body)
   has_few h = has_none (u16_at body 0) refl (omega arith)
 
-  test_some : {A : Type 0} (t : Bool) (a : A) → t ≡ is_some (pick t (some a) none)
+  test_some : {A : Type 0} (t : Bool) (a : A) → t ≡ is_some (pick t (Some a) None)
   test_some true a = refl
   test_some false a = refl
 

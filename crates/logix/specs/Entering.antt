@@ -1,10 +1,8 @@
 -- What a message comes to, as the code says it: each refusal by document 01's number, a reply by its length, its bytes being the buffer's first.
-use Rattle.std.specs.Prelude.{◌≡◌, List, ℕ, length}
+use Rattle.std.specs.Prelude.{◌≡◌, List, ℕ, length, Result, Ok, Err}
 use Rattle.definition.specs.Entry.{Outcome as Defined, refused, replied, Entered}
 use Rattle.logix.specs.declared.entry.Refusal.{Refusal}
 use Rattle.logix.specs.declared.entry.Refusal.TheVariants.{RequestTooLong, LimitTooLarge, BufferTooShort, TablesInvalid}
-use Rattle.logix.specs.declared.entry.Outcome.{Outcome}
-use Rattle.logix.specs.declared.entry.Outcome.TheVariants.{Reply, Refused}
 
 abbrev pub number_of : Refusal → ℕ
 number_of RequestTooLong = 1
@@ -12,14 +10,14 @@ number_of LimitTooLarge = 2
 number_of BufferTooShort = 3
 number_of TablesInvalid = 4
 
-abbrev pub IsOutcome : Outcome → Defined → Type 0
-IsOutcome (Reply n) (replied bytes) = n ≡ length bytes
-IsOutcome (Reply n) (refused number) = ⊥
-IsOutcome (Refused why) (replied bytes) = ⊥
-IsOutcome (Refused why) (refused number) = number_of why ≡ number
+abbrev pub IsOutcome : Result ℕ Refusal → Defined → Type 0
+IsOutcome (Ok n) (replied bytes) = n ≡ length bytes
+IsOutcome (Ok n) (refused number) = ⊥
+IsOutcome (Err why) (replied bytes) = ⊥
+IsOutcome (Err why) (refused number) = number_of why ≡ number
 
 -- outcome, every byte of the reply buffer and every byte of tag memory are the definition's
-pub record Enters (e : Entered) (r : Outcome) (buffer memory : List ℕ) : Type 0 where
+pub record Enters (e : Entered) (r : Result ℕ Refusal) (buffer memory : List ℕ) : Type 0 where
   pub outcome_is : IsOutcome r e.outcome
   pub buffer_is : buffer ≡ e.buffer
   pub memory_is : memory ≡ e.memory

@@ -1,21 +1,12 @@
 -- What the pieces of an envelope leave in its buffer.
-use Rattle.std.specs.Prelude.{◌≡◌, Bool, List, [], ◌++◌, ℕ, ◌+◌, ◌-◌, ◌*◌, ◌≤◌, ◌<◌, leb, eqb, length, get_or, take, drop}
+use Rattle.std.specs.Prelude.{◌≡◌, Bool, List, ◌++◌, ℕ, ◌+◌, ◌-◌, ◌*◌, ◌≤◌, ◌<◌, leb, eqb, length, get_or, take, drop}
 use Rattle.laws.specs.Pick.{pick}
 use Rattle.laws.specs.Put.{put, zeroed}
-use Rattle.definition.specs.Bytes.{le16, numbers}
+use Rattle.definition.specs.Bytes.{le16}
 use Rattle.definition.specs.Reply.{Answer, Status, reply, fail, room, success, part_failed, too_large}
-use Rattle.definition.specs.Envelope.{envelope_service, parts_from}
+use Rattle.definition.specs.Envelope.{envelope_service}
 use Rattle.cip.specs.Writes.{Laid}
 use Rattle.logix.specs.declared.parts.PartReply.{PartReply}
-
--- the offset of a part, or the body's end behind the last one
-unfoldable pub mark_at : (body : List ℕ) (count i : ℕ) → ℕ
-mark_at body count i = get_or (numbers count (drop 2 body)) i (length body)
-
--- a part's bytes, fewer than the whole body's
-pub record PartOf (body : List ℕ) (count i : ℕ) (r : List ℕ) : Type 0 where
-  pub is : r ≡ get_or (parts_from body (numbers count (drop 2 body))) i []
-  pub shorter : length r < length body
 
 -- a part's reply stands at `used` where it fits the limit, else nothing is written
 pub record Copied (bytes : List ℕ) (limit used : ℕ) (old : List ℕ) (r : PartReply) (new : List ℕ) : Type 0 where

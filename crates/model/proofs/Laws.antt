@@ -1,4 +1,4 @@
--- Parts cut at a store's end, rows that are not there, the type header by its pieces, and the three lengths of a tag as the definition has them.
+-- The type header by its pieces, and the three lengths of a tag as the definition has them.
 -- Assumes nothing.
 use mathlib.Core.Path.{◌≡◌, refl}
 use mathlib.Core.Logic.{◌≢◌}
@@ -17,39 +17,11 @@ use Rattle.laws.proofs.Chain.{by_test}
 use Rattle.laws.proofs.Put.{put_then}
 use Rattle.definition.specs.Bytes.{le16}
 use Rattle.definition.specs.Tables.{Row, field, handle, tag_type, tag_lengths, tag_elements, nonzero}
-use Rattle.definition.specs.Types.{atomic_size, is_atomic, is_dword_array, type_header}
+use Rattle.definition.specs.Types.{atomic_size, is_atomic, is_dword_array, structure_in, type_header}
 use Rattle.definition.specs.Symbols.{listed_lengths}
 use Rattle.definition.specs.Resolve.{index_lengths}
 use Rattle.cip.specs.Writes.{Written}
 use Rattle.model.specs.Shapes.{dword_array, listed3, cut3, indexed3, lengths3}
-
--- ---- a part of a store or of a table, cut at its end
-
-module _ {A : Type 0} (s : List A) (a start n : ℕ) (from : a ≡ start) where
-  pub part_past : length s ≤ a → take (length s - length s) (drop (length s) s) ≡ take n (drop start s)
-  part_past h = let k : length s ≤ start = omega arith in rw (drop-length, drop_of_length-le s k, take-nil, take-nil)
-
-  pub part_end : (k : ℕ) → k ≡ n → length s - a < k → take (length s - a) (drop a s) ≡ take n (drop start s)
-  part_end k e h =
-      let l : length (drop a s) ≤ length s - a = simp length-drop (omega arith) in
-      let m : length (drop a s) ≤ n = omega arith in
-      rw (← from, take_all (length s - a), take_all n)
-
-  pub part_inside : (k : ℕ) → k ≡ n → take (a + k - a) (drop a s) ≡ take n (drop start s)
-  part_inside k e = simp (add-sub_cancel_left, e, from)
-
-pub ruleset parts = (part_past, part_end, part_inside)
-
--- ---- rows and types
-
-pub no_row : (rows : List Row) (i k : ℕ) → length rows ≤ i → 0 ≡ field k (get_or rows i [])
-no_row rows i k h = rw (get_or-eq_default rows [] h)
-
-pub atomic : (k code : ℕ) → k ≡ atomic_size code → k ≢ 0 → is_atomic code ≡ true
-atomic k code e h = lt-ltb 0 (atomic_size code) (omega arith)
-
-pub not_atomic : (k code : ℕ) → k ≡ atomic_size code → k ≡ 0 → is_atomic code ≡ false
-not_atomic k code e h = rw (← e, h)
 
 -- ---- the type header
 
@@ -60,22 +32,19 @@ le16_low h =
     rw (a, b, add-mul-mod_self_left)
 
 module _ (structures : List Row) (type at : ℕ) (old x y : List ℕ) (fits : at + 4 ≤ length old) where
-  pub header_atomic : (b : ℕ) → type < 256 → b ≡ type → x ≡ put old at (b ∷ []) → y ≡ put x (at + 1) (0 ∷ [])
-      → Written at (type_header structures type) old 2 y
+  pub header_atomic : type < 256 → x ≡ put old at (le16 type) → Written at (type_header structures type) old 2 x
   unfolding type_header
-  header_atomic b t e f g = rw (lt-leb 256 type t) (record {
-    length_is = refl;
-    buffer_is = rw e at (put_then _ _ _ _ _ _ _ f g refl (omega arith));
-  })
+  header_atomic t e =
+      let low : type % 256 ≡ type = omega arith in
+      let high : type / 256 % 256 ≡ 0 = omega arith in
+      rw (lt-leb 256 type t) (record { length_is = refl; buffer_is = rw (low, high) at e })
 
-  pub header_structure : (i h v : ℕ) (z : List ℕ) → 256 ≤ type → i ≡ type - 256 → h ≡ handle (get_or structures i []) → v ≡ h % 65536
-      → x ≡ put old at (0xA0 ∷ []) → y ≡ put x (at + 1) (0x02 ∷ []) → z ≡ put y (at + 2) (le16 v)
-      → Written at (type_header structures type) old 4 z
+  pub header_structure : (h v : ℕ) → 256 ≤ type → h ≡ handle (structure_in structures type) → v ≡ h % 65536
+      → x ≡ put old at (le16 0x02A0) → y ≡ put x (at + 2) (le16 v) → Written at (type_header structures type) old 4 y
   unfolding type_header
-  header_structure i h v z t e q u f g k = rw (le-leb 256 type t) (record {
+  header_structure h v t q u f g = rw (le-leb 256 type t) (record {
     length_is = refl;
-    buffer_is =
-        rw (u, le16_low, q, e) at (put_then _ _ _ _ _ _ _ (put_then _ _ _ _ _ _ _ f g refl (omega arith)) k refl (omega arith));
+    buffer_is = rw (u, le16_low, q) at (put_then _ _ _ _ _ _ _ f g refl (omega arith));
   })
 
 pub ruleset headers = (header_atomic, header_structure)

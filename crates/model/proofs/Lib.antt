@@ -1,5 +1,3 @@
-pub mod Cases
 pub mod Due
 pub mod Laws
 pub mod Lent
-pub mod Seeking

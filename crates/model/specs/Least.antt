@@ -1,37 +1,33 @@
 -- The search for the least ID not below a bound, over the rows of a scope, from the last to the first; the proofs' Least ties it to `due`.
-use Rattle.std.specs.Prelude.{List, ℕ, ltb, eqb}
-use Rattle.laws.specs.Pick.{pick}
+use Rattle.std.specs.Prelude.{List, ℕ, Option, None, Some, ltb, leb, eqb}
+use Rattle.laws.specs.Pick.{pick, both}
 use Rattle.laws.specs.Fold.{fold}
 use Rattle.definition.specs.Tables.{Row, tag_scope, tag_id}
-use Rattle.model.specs.declared.least.Least.{Least}
-use Rattle.model.specs.declared.least.Least.TheVariants.{Of, Empty}
+use Rattle.model.specs.declared.least.Listed.{Listed}
 use Rattle.model.specs.declared.least.Next.{Next}
-use Rattle.model.specs.declared.least.Next.TheVariants.{Tag, Other, Nothing}
+use Rattle.model.specs.declared.least.Next.TheVariants.{Tag, Other}
 
-abbrev pub nearer_id : (i id : ℕ) → Least → Least
-nearer_id i id (Of j k) = pick (ltb id k) (Of i id) (Of j k)
-nearer_id i id Empty = Of i id
+abbrev pub listed : (place id : ℕ) → Listed
+listed place id = record { place = place; id = id }
 
-abbrev pub least_step : (rowScope id scope bound i : ℕ) → Least → Least
-least_step rowScope id scope bound i rest = pick (eqb rowScope scope) (pick (ltb id bound) rest (nearer_id i id rest)) rest
+-- a row before others: it, unless they have a lower ID
+abbrev pub nearer : Listed → Option Listed → Listed
+nearer here None = here
+nearer here (Some other) = pick (ltb here.id other.id) here other
 
-abbrev pub least_row : (scope bound i : ℕ) → Row → Least → Least
-least_row scope bound i r rest = least_step (tag_scope r) (tag_id r) scope bound i rest
+abbrev pub least_row : (scope bound place : ℕ) → Row → Option Listed → Option Listed
+least_row scope bound place r rest =
+    pick (both (eqb (tag_scope r) scope) (leb bound (tag_id r))) (Some (nearer (listed place (tag_id r)) rest)) rest
 
-unfoldable pub least_in : (scope bound : ℕ) → List Row → Least
-least_in scope bound rows = fold (least_row scope bound) Empty 0 rows
+unfoldable pub least_in : (scope bound : ℕ) → List Row → Option Listed
+least_in scope bound rows = fold (least_row scope bound) None 0 rows
 
-abbrev pub tag_or : (i id : ℕ) → Least → Next
-tag_or i id (Of j k) = pick (ltb id k) (Tag i id) (Other j k)
-tag_or i id Empty = Tag i id
+-- the nearer of a tag and another symbol
+abbrev pub nearest : Option Listed → Option Listed → Option Next
+nearest None None = None
+nearest None (Some o) = Some (Other o)
+nearest (Some t) None = Some (Tag t)
+nearest (Some t) (Some o) = pick (ltb t.id o.id) (Some (Tag t)) (Some (Other o))
 
-abbrev pub only_other : Least → Next
-only_other (Of j k) = Other j k
-only_other Empty = Nothing
-
-abbrev pub nearest : Least → Least → Next
-nearest (Of i id) other = tag_or i id other
-nearest Empty other = only_other other
-
-abbrev pub next_in : (tags others : List Row) (scope bound : ℕ) → Next
+abbrev pub next_in : (tags others : List Row) (scope bound : ℕ) → Option Next
 next_in tags others scope bound = nearest (least_in scope bound tags) (least_in scope bound others)

@@ -1,16 +1,9 @@
--- A lookup's answer as the code's enum has it, and the tests of a row that the lookups make.
+-- The tests of a row that the lookups make.
 use Rattle.std.specs.Prelude.{Bool, not, List, ℕ, eqb}
-use Rattle.std.proofs.Math.Option.{Option, none, some}
 use Rattle.laws.specs.Pick.{both}
 use Rattle.definition.specs.Names.{same_name}
 use Rattle.definition.specs.Tables.{Row, template_id, member_name, is_hidden, is_local, program_name, tag_scope, tag_name, tag_id}
 use Rattle.definition.specs.Lookup.{marked}
-use Rattle.model.specs.declared.lookup.Found.{Found}
-use Rattle.model.specs.declared.lookup.Found.TheVariants.{At, Nothing}
-
-abbrev pub found_of : Option ℕ → Found
-found_of none = Nothing
-found_of (some i) = At i
 
 abbrev pub program_is : (names name : List ℕ) → Row → Bool
 program_is names name r = same_name (program_name names r) name

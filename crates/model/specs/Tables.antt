@@ -5,11 +5,25 @@ use Rattle.definition.specs.Types.{size_in}
 use Rattle.definition.specs.Valid.{valid}
 use Rattle.definition.specs.Resolve.{Target as DefinedTarget}
 use Rattle.model.specs.declared.Flags.{Flags}
+use Rattle.model.specs.declared.tables.Tables.{Tables as Lent}
 use Rattle.model.specs.declared.Target.{Target}
 
--- eight slices
-abbrev pub tables_of : (structures members programs tags others : List Row) (names tag_names templates : List ℕ) → Tables
-tables_of structures members programs tags others names tag_names templates = record {
+-- the lent slices
+abbrev pub tables_of : Lent → Tables
+tables_of t = record {
+  structures = t.structures.now;
+  members = t.members.now;
+  programs = t.programs.now;
+  tags = t.tags.now;
+  others = t.others.now;
+  names = t.names.now;
+  tag_names = t.tag_names.now;
+  templates = t.templates.now;
+}
+
+-- eight slices that are lent one by one
+abbrev pub tables_from : (structures members programs tags others : List Row) (names tag_names templates : List ℕ) → Tables
+tables_from structures members programs tags others names tag_names templates = record {
   structures = structures;
   members = members;
   programs = programs;
@@ -42,11 +56,11 @@ pub record SomeValid (lent : Tables → Tables) : Type 0 where
 -- what is lent to resolve a path; to find its tag in a scope, with or without a program's name; to walk on from there
 abbrev pub for_path : (structures members programs tags : List Row) (names tag_names : List ℕ) → Tables → Tables
 for_path structures members programs tags names tag_names o =
-    tables_of structures members programs tags o.others names tag_names o.templates
+    tables_from structures members programs tags o.others names tag_names o.templates
 
 abbrev pub for_start : (programs tags : List Row) (names tag_names : List ℕ) → Tables → Tables
 for_start programs tags names tag_names o =
-    tables_of o.structures o.members programs tags o.others names tag_names o.templates
+    tables_from o.structures o.members programs tags o.others names tag_names o.templates
 
 abbrev pub for_tag : (tags : List Row) (tag_names : List ℕ) → Tables → Tables
 for_tag tags tag_names o = for_start o.programs tags o.names tag_names o
@@ -57,7 +71,7 @@ for_walk structures members names o = for_path structures members o.programs o.t
 -- to list symbols; to find the scope that is listed; to make a page of a scope's symbols; to make a symbol of a tag
 abbrev pub for_list : (structures programs tags others : List Row) (names tag_names : List ℕ) → Tables → Tables
 for_list structures programs tags others names tag_names o =
-    tables_of structures o.members programs tags others names tag_names o.templates
+    tables_from structures o.members programs tags others names tag_names o.templates
 
 abbrev pub for_scope : (programs : List Row) (names : List ℕ) → Tables → Tables
 for_scope programs names o = for_start programs o.tags names o.tag_names o
@@ -74,7 +88,7 @@ for_attributes programs tags others names o = for_list o.structures programs tag
 
 abbrev pub for_template : (structures : List Row) (templates : List ℕ) → Tables → Tables
 for_template structures templates o =
-    tables_of structures o.members o.programs o.tags o.others o.names o.tag_names templates
+    tables_from structures o.members o.programs o.tags o.others o.names o.tag_names templates
 
 -- ---- flags and targets
 

@@ -81,5 +81,14 @@ pub const OTHER_ID: usize = 3;
 
 pub const OTHER_TYPE: usize = 4;
 
+// A symbol, which is a tag or another symbol: both have their scope, their name and their ID at these columns.
+pub const SYMBOL_SCOPE: usize = 0;
+
+pub const SYMBOL_NAME_START: usize = 1;
+
+pub const SYMBOL_NAME_LENGTH: usize = 2;
+
+pub const SYMBOL_ID: usize = 3;
+
 /// A member's or a target's bit where it is no bit of a byte.
 pub const NO_BIT: u32 = 8;

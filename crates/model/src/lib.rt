@@ -5,7 +5,10 @@ pub mod columns;
 pub mod least;
 pub mod lookup;
 pub mod shapes;
+pub mod tables;
 pub mod types;
+
+pub use tables::Tables;
 
 /// What a controller takes; micro800 turns the first two off.
 #[derive(Clone, Copy)]
@@ -14,6 +17,13 @@ pub struct Flags {
     pub instance_ids: bool,
     pub aoi_locals_refused: bool,
     pub micro800: bool,
+}
+
+/// A controller: its tables, and what it takes.
+#[derive(Clone, Copy)]
+pub struct Controller<'a> {
+    pub tables: Tables<'a>,
+    pub flags: Flags,
 }
 
 /// A place in tag memory: the tag's index, the first byte, the type word, the bytes of one element,

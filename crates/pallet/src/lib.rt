@@ -6,8 +6,8 @@ ghost use Rattle.definition.specs.Pallet.{pallet, pallet_flags};
 ghost use Rattle.logix.specs.Entering.{Enters};
 ghost use Rattle.pallet.specs.Lent.{with_tags};
 
-use logix::entry::Outcome;
-use model::Flags;
+use logix::entry::Refusal;
+use model::{Controller, Flags, Tables};
 
 /// Multi-service and instance IDs; AOI locals are not refused.
 pub const FLAGS: Flags = Flags {
@@ -48,39 +48,35 @@ pub fn with_tags(
     request: &[u8],
     limit: usize,
     buf: &mut [u8],
-) -> Outcome
+) -> Result<usize, Refusal>
     ensures { Enters (entry_of (with_tags tags.now tag_names.now) pallet_flags memory.old request.now
         limit buf.old) result buf.new memory.new }
 {
-    let structures = STRUCTURES;
-    let members = MEMBERS;
-    let programs = [[0u32; 2]; 0];
-    let others = [[0u32; 5]; 0];
-    let names = NAMES;
-    let templates = TEMPLATES;
-    logix::entry::message(
-        &structures,
-        &members,
-        &programs,
-        tags,
-        &others,
-        &names,
-        tag_names,
-        &templates,
-        FLAGS,
-        memory,
-        request,
-        limit,
-        buf,
-    )
+    let c = Controller {
+        tables: Tables {
+            structures: &STRUCTURES,
+            members: &MEMBERS,
+            programs: &[],
+            tags,
+            others: &[],
+            names: &NAMES,
+            tag_names,
+            templates: &TEMPLATES,
+        },
+        flags: FLAGS,
+    };
+    logix::entry::message(&c, memory, request, limit, buf)
 }
 
 /// What a message to the bench comes to.
-pub fn message(memory: &mut [u8], request: &[u8], limit: usize, buf: &mut [u8]) -> Outcome
+pub fn message(
+    memory: &mut [u8],
+    request: &[u8],
+    limit: usize,
+    buf: &mut [u8],
+) -> Result<usize, Refusal>
     ensures { Enters (entry_of pallet pallet_flags memory.old request.now limit buf.old)
         result buf.new memory.new }
 {
-    let tags = TAGS;
-    let tag_names = TAG_NAMES;
-    with_tags(&tags, &tag_names, memory, request, limit, buf)
+    with_tags(&TAGS, &TAG_NAMES, memory, request, limit, buf)
 }

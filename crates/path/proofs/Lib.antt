@@ -1,10 +1,9 @@
-pub mod Cases
 pub mod Forward
 pub mod Segments
 pub mod TagPaths
 pub mod Objects
-pub mod Laws
-pub mod Branches
 pub mod Counts
 pub mod Reaching
-pub mod Cursors
+pub mod Requests
+pub mod Agreeing
+pub mod Decoding

@@ -1,137 +1,121 @@
--- A walk to a path's i-th segment that has come to a position, with some segments left to go over: it goes on, or ends. And what the count of a path's
--- segments says of its i-th.
+-- A walk to a path's i-th segment that has come to a position: it goes on, or ends. And what the count of a path's segments says of its i-th.
 -- Assumes nothing.
-use mathlib.Core.Path.{◌≡◌, refl, sym, ap, subst, ◌∙◌}
+use mathlib.Core.Path.{◌≡◌, refl, sym, ap, ◌∙◌}
+use mathlib.Core.Bool.{true}
 use mathlib.Core.List.{List, [], ◌∷◌, map}
-use mathlib.Core.Option.{Option, none, some}
-use Prim.Native.Nat.{ℕ, zero, suc, ◌-◌, ◌<◌, ◌≤◌}
+use Rattle.std.specs.Prelude.{Option, None, Some}
+use Prim.Native.Nat.{ℕ, zero, suc, ◌+◌, ◌-◌, ◌≤◌}
 use native.Mathlib.Omega.{arith}
-use lib.Dec.{ltb, eqb}
+use lib.Dec.{ltb}
 use lib.ListN.{length, length-map}
+use borrow.Author.Tests.{ltb-true, ltb-false}
+use Rattle.laws.specs.Pick.{is_some}
 use Rattle.laws.specs.Items.{before, items}
 use Rattle.laws.proofs.Chain.{by_test, clash}
-use Rattle.definition.specs.Segment.{Step, cut, segment_at, next_of, segment_of, only_segments, segments_from}
-use Rattle.path.specs.Decode.{next_after}
-use Rattle.path.specs.Nth.{steps_of, nth, nth_in, start_in, Nth, Reached}
-use Rattle.path.specs.Paths.{step_of, NameInside, Decoded, check_by, check_of}
-use Rattle.path.specs.declared.Segment.{Segment}
-use Rattle.path.specs.declared.Segment.TheVariants.{Invalid}
-use Rattle.path.specs.declared.Check.TheVariants.{Segments, Bad}
-use Rattle.path.proofs.Forward.{next_same}
+use Rattle.laws.proofs.Items.{items_at, items_bad, items_end}
+use Rattle.definition.specs.Segment.{Segment as Defined, Step, step, cut, segment_at, next_of, segment_of, only_segments, segments_from}
+use Rattle.path.specs.Nth.{steps_of, nth, nth_in, start_in, count_by, segment_count}
+use Rattle.path.proofs.Forward.{forward, step_inside}
 
--- ---- the i-th of the segments from a position on stands where it starts
+-- ---- by what the path's segments are
 
--- as `start_in`, of the segments from a position on
-abbrev start_from : (at : ℕ) → List Step → ℕ → ℕ
-start_from at l zero = at
-start_from at l (suc k) = next_of (nth l k)
-
-start_whole : (l : List Step) (k : ℕ) → start_from 0 l k ≡ start_in (some l) k
-start_whole l zero = refl
-start_whole l (suc k) = refl
-
-start_behind : (at : ℕ) (s : Step) (l : List Step) (k : ℕ) → start_from (next_of s) l k ≡ start_from at (s ∷ l) (suc k)
+cut-outside : (l : List Step) (i : ℕ) → length l ≤ i → cut ≡ nth l i
 unfolding nth
-start_behind at s l zero = refl
-start_behind at s l (suc k) = refl
+cut-outside [] i h = refl
+cut-outside (s ∷ l) zero h = absurd (omega arith)
+cut-outside (s ∷ l) (suc i) h = cut-outside l i (omega arith)
 
-module _ (path : List ℕ) where
-  abbrev Stands : (at : ℕ) → List Step → Type 0
-  Stands at l = (k : ℕ) → k < length l → nth l k ≡ segment_at path (start_from at l k)
+behind_by : (i n : ℕ) (m : Option (List Step)) → Some n ≡ count_by (only_segments m) → n ≤ i → cut ≡ nth_in m i
+behind_by i n None e h = refl
+behind_by i n (Some l) e h = let k : n ≡ length (map segment_of l) = cc e in cut-outside l i (omega (arith, h, k, length-map l segment_of))
 
-  stands-none : (at : ℕ) → Stands at []
-  stands-none at k h = absurd (omega arith)
+bad_by : (i : ℕ) (m : Option (List Step)) → None ≡ count_by (only_segments m) → cut ≡ nth_in m i
+bad_by i None e = refl
+bad_by i (Some l) e = clash (cc e)
 
-  stands-before : (at : ℕ) (l : List Step) → Stands (next_of (segment_at path at)) l → Stands at (segment_at path at ∷ l)
-  unfolding nth
-  stands-before at l f zero h = refl
-  stands-before at l f (suc k) h = f k (omega arith) ∙ ap (segment_at path) (start_behind at (segment_at path at) l k)
+decodes_by : (n : ℕ) (m : Option (List Step)) → Some n ≡ count_by (only_segments m) → is_some m ≡ true
+decodes_by n None e = clash (cc e)
+decodes_by n (Some l) e = refl
 
-  stands_by : (at : ℕ) (m : Option (List Step)) → ((l : List Step) → m ≡ some l → Stands (next_of (segment_at path at)) l)
-      → (l : List Step) → before (segment_at path at) m ≡ some l → Stands at l
-  stands_by at none f l e = clash (cc e)
-  stands_by at (some m) f l e = let p : segment_at path at ∷ m ≡ l = cc e in subst (Stands at) p (stands-before at m (f m refl))
+nth-before : (s : Step) (m : Option (List Step)) (k : ℕ) → nth_in (before s m) (suc k) ≡ nth_in m k
+unfolding nth
+nth-before s None k = refl
+nth-before s (Some l) k = refl
 
-  nothing_stands : (at : ℕ) (l : List Step) → some [] ≡ some l → Stands at l
-  nothing_stands at l e = let p : [] ≡ l = cc e in subst (Stands at) p (stands-none at)
+first-before : (s : Step) (m : Option (List Step)) → is_some (before s m) ≡ true → s ≡ nth_in (before s m) 0
+unfolding nth
+first-before s None d = clash (cc d)
+first-before s (Some l) d = refl
 
-  stands : (fuel e at : ℕ) (l : List Step) → items (segment_at path) next_of fuel e at ≡ some l → Stands at l
-  unfolding items
-  stands zero e at l g = by_test (ltb at e) (λ t. clash (cc (rw t at g))) (λ t. nothing_stands at l (rw t at g))
-  stands (suc fuel) e at l g =
-      by_test (ltb at e)
-      (λ t. by_test (eqb (next_of (segment_at path at)) 0) (λ z. clash (cc (rw (t, z) at g)))
-      (λ z. stands_by at (items (segment_at path) next_of fuel e (next_of (segment_at path at))) (stands fuel e (next_of (segment_at path at))) l (rw (t, z) at g)))
-      (λ t. nothing_stands at l (rw t at g))
-
-  nth-stands : (l : List Step) → steps_of path ≡ some l → (k : ℕ) → k < length l → nth l k ≡ segment_at path (start_in (some l) k)
-  nth-stands l e k h = stands (length path) (length path) 0 l e k h ∙ ap (segment_at path) (start_whole l k)
+rest-before : (s : Step) (m : Option (List Step)) → is_some (before s m) ≡ true → is_some m ≡ true
+rest-before s None d = d
+rest-before s (Some l) d = refl
 
 -- ---- the walk
 
--- of a path that has the segment that is looked for: so many segments before it, one starts here; of a path that has none, nothing is said
-pub record Reaching (path : List ℕ) (i at left : ℕ) : Type 0 where
-  pub below : left ≤ i
-  pub on : (l : List Step) → steps_of path ≡ some l → i < length l → at ≡ start_in (some l) (i - left)
+-- the segments from a position on, each with the position behind it
+abbrev pub steps_from : List ℕ → ℕ → Option (List Step)
+steps_from path at = items (segment_at path) next_of (length path) (length path) at
 
-module _ (path : List ℕ) (i : ℕ) where
-  pub reaching_start : Reaching path i 0 i
-  reaching_start = record { below = omega arith; on = λ l e h. let z : i - i ≡ 0 = omega arith in rw z }
+-- j segments stand before this position in a path that decodes: the j-th starts here, and those from here on are those from the j-th on
+pub record Reaching (path : List ℕ) (at j : ℕ) : Type 0 where
+  pub decodes : is_some (steps_from path at) ≡ true
+  pub on : (k : ℕ) → nth_in (steps_from path at) k ≡ nth_in (steps_of path) (j + k)
+  pub starts : at ≡ start_in (steps_of path) j
 
-  module _ (at : ℕ) (r : Segment) (d : Decoded path at r) where
-    -- the segment that was read is the one of its number
-    read_is : (l : List Step) → steps_of path ≡ some l → (k : ℕ) → k < length l → at ≡ start_in (some l) k → step_of path r ≡ nth l k
-    read_is l e k h p = d.is ∙ ap (segment_at path) p ∙ sym (nth-stands path l e k h)
+module _ (path : List ℕ) where
+  steps_at : (at : ℕ) (s : Defined) (next : ℕ) → segment_at path at ≡ step s next → steps_from path at ≡ before (step s next) (steps_from path next)
+  steps_at at s next e =
+      let i = step_inside path at s next e in
+      let n : next_of (segment_at path at) ≡ 0 → ⊥ = λ z. absurd (omega (arith, i.0, sym (ap next_of e) ∙ z)) in
+      rw e at (items_at (segment_at path) next_of (length path) (forward path) (length path) at (omega arith) (omega (arith, i.0, i.1)) n)
 
-    pub reaching_next : (left : ℕ) → Reaching path i at left → 0 < left → (n : ℕ) → n ≡ next_after r → Reaching path i n (left - 1)
-    reaching_next left g h n e =
-        let b = g.below in
-        let p : suc (i - left) ≡ i - (left - 1) = omega (arith, h, b) in
+  steps-cut : (at k : ℕ) → segment_at path at ≡ cut → cut ≡ nth_in (steps_from path at) k
+  unfolding nth
+  steps-cut at k e =
+      by_test (ltb at (length path))
+      (λ t. let h = ltb-true at (length path) t in
+      rw (items_bad (segment_at path) next_of (length path) (forward path) (length path) at (omega arith) h (ap next_of e)) refl)
+      (λ t. rw (items_end (segment_at path) next_of (length path) (forward path) (length path) at (ltb-false at (length path) t)) refl)
+
+  module _ (i : ℕ) where
+    pub nth-bad : None ≡ segment_count path → cut ≡ nth_in (steps_of path) i
+    unfolding segment_count segments_from
+    nth-bad e = bad_by i (steps_of path) e
+
+    pub nth-behind : (n : ℕ) → Some n ≡ segment_count path → n ≤ i → cut ≡ nth_in (steps_of path) i
+    unfolding segment_count segments_from
+    nth-behind n e h = behind_by i n (steps_of path) e h
+
+  pub reaching_start : (n : ℕ) → Some n ≡ segment_count path → Reaching path 0 0
+  unfolding segment_count segments_from
+  reaching_start n e = record {
+    decodes = decodes_by n (steps_of path) e;
+    on = λ k. let p : k ≡ 0 + k = omega arith in ap (nth_in (steps_of path)) p;
+    starts = refl;
+  }
+
+  module _ (at j : ℕ) (g : Reaching path at j) where
+    here : (x : Step) → segment_at path at ≡ x → x ≡ nth_in (steps_of path) j
+    here (step s next) e =
+        let p = steps_at at s next e in
+        let q : j + 0 ≡ j = omega arith in
+        rw p (first-before (step s next) (steps_from path next) (rw p at g.decodes)) ∙ g.on 0 ∙ ap (nth_in (steps_of path)) q
+    here cut e = let q : j + 0 ≡ j = omega arith in steps-cut at 0 e ∙ g.on 0 ∙ ap (nth_in (steps_of path)) q
+
+    pub reaching_next : (s : Defined) (next : ℕ) → segment_at path at ≡ step s next → Reaching path next (j + 1)
+    reaching_next s next e =
+        let p = steps_at at s next e in
+        let one : j + 1 ≡ suc j = omega arith in
         record {
-          below = omega (arith, b);
-          on = λ l f k.
-              e ∙ next_same path r ∙ ap next_of (read_is l f (i - left) (omega (arith, k)) (g.on l f k)) ∙ ap (start_in (some l)) p;
+          decodes = rest-before (step s next) (steps_from path next) (rw p at g.decodes);
+          on = λ k. let q : j + suc k ≡ j + 1 + k = omega arith in
+              sym (nth-before (step s next) (steps_from path next) k) ∙ rw p at (g.on (suc k)) ∙ ap (nth_in (steps_of path)) q;
+          starts = rw one (ap next_of (here (step s next) e));
         }
 
-    pub reaching_end : (left : ℕ) → Reaching path i at left → left ≡ 0 → Reached path i r
-    reaching_end left g z l e h =
-        let i-is : i - left ≡ i = omega (arith, z) in
-        let p : at ≡ start_in (some l) i = g.on l e h ∙ ap (start_in (some l)) i-is in
-        record { is = rw e (read_is l e i h p); name_inside = rw e (subst (λ k. NameInside path k r) p d.name_inside) }
+    pub reaching-cut : (i : ℕ) → j ≤ i → segment_at path at ≡ cut → cut ≡ nth_in (steps_of path) i
+    reaching-cut i h e = let l : j + (i - j) ≡ i = omega arith in steps-cut at (i - j) e ∙ g.on (i - j) ∙ ap (nth_in (steps_of path)) l
 
--- ---- the count: the path has as many segments, and none where one of them is bad
-
-nth_outside : (l : List Step) (i : ℕ) → length l ≤ i → cut ≡ nth l i
-unfolding nth
-nth_outside [] i h = refl
-nth_outside (s ∷ l) zero h = absurd (omega arith)
-nth_outside (s ∷ l) (suc i) h = nth_outside l i (omega arith)
-
-module _ (i n : ℕ) where
-  inside_by : (m : Option (List Step)) → Segments n ≡ check_by (only_segments m) → i < n → (P : Type 0) → ((l : List Step) → m ≡ some l → i < length l → P) → P
-  inside_by none e h P f = clash (cc e)
-  inside_by (some l) e h P f = let k : n ≡ length (map segment_of l) = cc e in f l refl (omega (arith, h, k, length-map l segment_of))
-
-  outside_by : (m : Option (List Step)) → Segments n ≡ check_by (only_segments m) → n ≤ i → cut ≡ nth_in m i
-  outside_by none e h = refl
-  outside_by (some l) e h = let k : n ≡ length (map segment_of l) = cc e in nth_outside l i (omega (arith, h, k, length-map l segment_of))
-
-bad_by : (i : ℕ) (m : Option (List Step)) → Bad ≡ check_by (only_segments m) → cut ≡ nth_in m i
-bad_by i none e = refl
-bad_by i (some l) e = clash (cc e)
-
-module _ (path : List ℕ) (i : ℕ) where
-  nothing_there : cut ≡ nth_in (steps_of path) i → Nth path i Invalid
-  nothing_there e = record { is = e; name_inside = tt }
-
-  pub nth_reached : (n : ℕ) (r : Segment) → Segments n ≡ check_of path → i < n → Reached path i r → Nth path i r
-  unfolding check_of segments_from
-  nth_reached n r e h g = inside_by i n (steps_of path) e h (Nth path i r) g
-
-  pub nth-behind : (n : ℕ) → Segments n ≡ check_of path → n ≤ i → Nth path i Invalid
-  unfolding check_of segments_from
-  nth-behind n e h = nothing_there (outside_by i n (steps_of path) e h)
-
-  pub nth_bad : Bad ≡ check_of path → Nth path i Invalid
-  unfolding check_of segments_from
-  nth_bad e = nothing_there (bad_by i (steps_of path) e)
+    pub reaching_end : (i : ℕ) → j ≡ i → (segment_at path at ≡ nth_in (steps_of path) i) × (at ≡ start_in (steps_of path) i)
+    reaching_end i e = (here (segment_at path at) refl ∙ ap (nth_in (steps_of path)) e, g.starts ∙ ap (start_in (steps_of path)) e)

@@ -3,77 +3,82 @@
 use mathlib.Core.Path.{◌≡◌, refl, sym, ap, ◌∙◌}
 use mathlib.Core.Bool.{Bool, true, false}
 use mathlib.Core.List.{List, [], ◌∷◌}
-use mathlib.Core.Option.{Option, none, some}
+use Rattle.std.specs.Prelude.{Option, None, Some}
 use Prim.Native.Nat.{ℕ, ◌<◌, ◌≤◌}
 use native.Mathlib.Omega.{arith}
 use lib.Dec.{ltb, eqb}
 use lib.ListN.{length}
 use borrow.Author.Tests.{ltb-true, ltb-false}
-use Rattle.laws.specs.Pick.{pick, is_some}
+use Rattle.laws.specs.Pick.{pick, both, is_some}
+use Rattle.std.specs.Option.{is_some as std_some}
 use Rattle.laws.specs.Items.{before}
 use Rattle.laws.proofs.Chain.{by_test, both_off_2, clash}
-use Rattle.definition.specs.Bytes.{part}
+use Rattle.laws.proofs.Tests.{both-none}
 use Rattle.definition.specs.Names.{is_program_name}
 use Rattle.definition.specs.Segment.{Segment as Defined, port, class, instance, element, attribute, symbol, Step, step, cut, segment_at, segments_from, class_of, instance_of, name_of}
 use Rattle.definition.specs.Request.{object_by, symbol_instance, is_tag_path}
-use Rattle.path.specs.Decode.{decoded_at}
-use Rattle.path.specs.Paths.{step_of, tag_path_by, tag_path_from, left_of, segments_left, symbol_object}
 use Rattle.path.specs.declared.Segment.{Segment}
-use Rattle.path.specs.declared.Segment.TheVariants.{Port, Class, Instance, Element, Attribute, Symbol, Invalid}
-use Rattle.path.proofs.Forward.{decoded_step}
+use Rattle.path.specs.declared.Segment.TheVariants.{Port, Class, Instance, Element, Attribute, Symbol}
+use Rattle.path.specs.Paths.{segment_of, tag_path_by, tag_path_from, left_of, segments_left, instance_in}
+use Rattle.std.proofs.Common.{Bor}
 use Rattle.path.proofs.Segments.{segments_end, segments-cut, segments_step, segments_rest, no_head}
 
 -- ---- by a path's first segment, with m what follows: one that is neither a class nor a symbol
 
-plain : (s : Defined) → name_of s ≡ none → class_of s ≡ none → (m : Option (List Defined)) → false ≡ tag_path_by (before s m)
+plain : (s : Defined) → name_of s ≡ None → class_of s ≡ None → (m : Option (List Defined)) → false ≡ tag_path_by (before s m)
 unfolding is_tag_path
-plain s e f none = refl
-plain s e f (some []) = rw e
-plain s e f (some (u ∷ l)) = rw (e, f)
+plain s e f None = refl
+plain s e f (Some []) = rw e
+plain s e f (Some (u ∷ l)) = rw (e, f)
 
 -- a class: 0x6B, with an instance behind it
 abbrev object_test : ℕ → Step → Bool
-object_test c (step s next) = is_some (symbol_instance (object_by (some c) (instance_of s)))
+object_test c (step s next) = is_some (symbol_instance (object_by (Some c) (instance_of s)))
 object_test c cut = false
 
-pick_some : (t : Bool) (i : ℕ) → t ≡ is_some (pick t (some i) none)
-pick_some true i = refl
-pick_some false i = refl
+picked : (t : Bool) (i : ℕ) → both t true ≡ is_some (pick t (Some i) None)
+picked true i = refl
+picked false i = refl
 
-object_same : (path : List ℕ) (c : ℕ) (s : Segment) → symbol_object c s ≡ object_test c (step_of path s)
-object_same path c (Port next) = refl
-object_same path c (Class x next) = refl
-object_same path c (Instance x next) = pick_some (eqb c 0x6B) x
-object_same path c (Element x next) = refl
-object_same path c (Attribute x next) = refl
-object_same path c (Symbol start n next) = refl
-object_same path c Invalid = refl
+object_same : (c : ℕ) (x : Step) → both (eqb c 0x6B) (is_some (instance_in x)) ≡ object_test c x
+object_same c (step port next) = both-none (eqb c 0x6B)
+object_same c (step (class x) next) = both-none (eqb c 0x6B)
+object_same c (step (instance x) next) = picked (eqb c 0x6B) x
+object_same c (step (element x) next) = both-none (eqb c 0x6B)
+object_same c (step (attribute x) next) = both-none (eqb c 0x6B)
+object_same c (step (symbol name) next) = both-none (eqb c 0x6B)
+object_same c cut = both-none (eqb c 0x6B)
 
 pair_by : (c : ℕ) (s : Defined) (m : Option (List Defined)) → is_some (before s m) ≡ true
-    → is_some (symbol_instance (object_by (some c) (instance_of s))) ≡ tag_path_by (before (class c) (before s m))
+    → is_some (symbol_instance (object_by (Some c) (instance_of s))) ≡ tag_path_by (before (class c) (before s m))
 unfolding is_tag_path
-pair_by c s none h = clash (cc h)
-pair_by c s (some l) h = refl
+pair_by c s None h = clash (cc h)
+pair_by c s (Some l) h = refl
 
 one_less : (s : Defined) (m : Option (List Defined)) → is_some m ≡ true → left_of m < left_of (before s m)
-one_less s none h = clash (cc h)
-one_less s (some l) h = omega arith
+one_less s None h = clash (cc h)
+one_less s (Some l) h = omega arith
 
 -- a symbol: a program name or another
 symbol-plain : (name : List ℕ) (m : Option (List Defined)) → is_some m ≡ true → is_program_name name ≡ false → true ≡ tag_path_by (before (symbol name) m)
 unfolding is_tag_path
-symbol-plain name none h e = sym h
-symbol-plain name (some l) h e = rw e
+symbol-plain name None h e = sym h
+symbol-plain name (Some l) h e = rw e
 
-symbol_alone : (name : List ℕ) → true ≡ tag_path_by (before (symbol name) (some []))
+symbol_alone : (name : List ℕ) → true ≡ tag_path_by (before (symbol name) (Some []))
 unfolding is_tag_path
 symbol_alone name = rw (both_off_2 (is_program_name name) false refl)
 
-symbol_program : (name : List ℕ) (m : Option (List Defined)) → (m ≡ some [] → ⊥) → is_program_name name ≡ true → tag_path_by m ≡ tag_path_by (before (symbol name) m)
+symbol_program : (name : List ℕ) (m : Option (List Defined)) → (m ≡ Some [] → ⊥) → is_program_name name ≡ true
+    → tag_path_by m ≡ tag_path_by (before (symbol name) m)
 unfolding is_tag_path
-symbol_program name none h e = refl
-symbol_program name (some []) h e = absurd (h refl)
-symbol_program name (some (s ∷ l)) h e = rw e
+symbol_program name None h e = refl
+symbol_program name (Some []) h e = absurd (h refl)
+symbol_program name (Some (s ∷ l)) h e = rw e
+
+some_same : {A : Type 0} (m : Option A) → std_some m ≡ is_some m
+some_same None = refl
+some_same (Some x) = refl
 
 -- ---- from a position on
 
@@ -94,62 +99,49 @@ module _ (path : List ℕ) (at : ℕ) where
       → false ≡ tag_path_from path at
   no_tag_lem s next e f = f (segments_from path next) ∙ sym (tag_at s next e)
 
--- r is what the decoder found
-module _ (path : List ℕ) (at : ℕ) (r : Segment) (found : r ≡ decoded_at path at) where
-  pub at_step : (s : Segment) → r ≡ s → segment_at path at ≡ step_of path s
-  at_step s g = sym (decoded_step path at s (sym g ∙ found))
+-- by the segment that stands there
+module _ (path : List ℕ) (at : ℕ) where
+  pub tag-other : (s : Segment) (next : ℕ) → step (segment_of s) next ≡ segment_at path at → ((x : ℕ) → s ≡ Class x → ⊥)
+      → ((x : Bor (List ℕ)) → s ≡ Symbol x → ⊥)
+      → false ≡ tag_path_from path at
+  tag-other Port next e f g = no_tag_lem path at port next (sym e) (plain port refl refl)
+  tag-other (Class x) next e f g = absurd (f x refl)
+  tag-other (Instance x) next e f g = no_tag_lem path at (instance x) next (sym e) (plain (instance x) refl refl)
+  tag-other (Element x) next e f g = no_tag_lem path at (element x) next (sym e) (plain (element x) refl refl)
+  tag-other (Attribute x) next e f g = no_tag_lem path at (attribute x) next (sym e) (plain (attribute x) refl refl)
+  tag-other (Symbol x) next e f g = absurd (g x refl)
 
-  pub tag-port : (next : ℕ) → r ≡ Port next → false ≡ tag_path_from path at
-  tag-port next g = no_tag_lem path at port next (at_step (Port next) g) (plain port refl refl)
-
-  pub tag-instance : (x next : ℕ) → r ≡ Instance x next → false ≡ tag_path_from path at
-  tag-instance x next g = no_tag_lem path at (instance x) next (at_step (Instance x next) g) (plain (instance x) refl refl)
-
-  pub tag-element : (x next : ℕ) → r ≡ Element x next → false ≡ tag_path_from path at
-  tag-element x next g = no_tag_lem path at (element x) next (at_step (Element x next) g) (plain (element x) refl refl)
-
-  pub tag-attribute : (x next : ℕ) → r ≡ Attribute x next → false ≡ tag_path_from path at
-  tag-attribute x next g = no_tag_lem path at (attribute x) next (at_step (Attribute x next) g) (plain (attribute x) refl refl)
-
-  pub tag_invalid : r ≡ Invalid → false ≡ tag_path_from path at
+  pub tag-cut : segment_at path at ≡ cut → false ≡ tag_path_from path at
   unfolding tag_path_from is_tag_path
-  tag_invalid g =
-      by_test (ltb at (length path)) (λ t. rw (segments-cut path at (ltb-true at (length path) t) (at_step Invalid g)))
+  tag-cut e =
+      by_test (ltb at (length path)) (λ t. rw (segments-cut path at (ltb-true at (length path) t) e))
       (λ t. rw (segments_end path at (ltb-false at (length path) t)))
 
   module _ (decodes : is_some (segments_from path at) ≡ true) where
-    pub tag-class : (c next : ℕ) (second : Segment) (v : Bool) → r ≡ Class c next → second ≡ decoded_at path next → v ≡ symbol_object c second
-        → v ≡ tag_path_from path at
-    tag-class c next second v g e q =
-        let s = at_step (Class c next) g in
-        q ∙ object_same path c second ∙ ap (object_test c) (decoded_step path next second e)
-        ∙ pair_at path next c (segments_rest path at (class c) next s decodes) (segment_at path next) refl ∙ sym (tag_at path at (class c) next s)
+    pub tag-class : (c next : ℕ) → segment_at path at ≡ step (class c) next
+        → both (eqb c 0x6B) (is_some (instance_in (segment_at path next))) ≡ tag_path_from path at
+    tag-class c next e =
+        object_same c (segment_at path next)
+        ∙ pair_at path next c (segments_rest path at (class c) next e decodes) (segment_at path next) refl ∙ sym (tag_at path at (class c) next e)
 
-    module _ (start n next : ℕ) (is : r ≡ Symbol start n next) where
-      here : segment_at path at ≡ step (symbol (part path start n)) next
-      here = at_step (Symbol start n next) is
+    pub tag-symbol_object : (c next : ℕ) (r : Option (ℕ × ℕ)) → segment_at path at ≡ step (class c) next → r ≡ instance_in (segment_at path next) → c ≡ 0x6B
+        → std_some r ≡ tag_path_from path at
+    tag-symbol_object c next r e f k = some_same r ∙ rw f (rw k at (tag-class c next e))
 
+    module _ (name : List ℕ) (next : ℕ) (here : segment_at path at ≡ step (symbol name) next) where
       pub tag_rest : is_some (segments_from path next) ≡ true
-      tag_rest = segments_rest path at (symbol (part path start n)) next here decodes
+      tag_rest = segments_rest path at (symbol name) next here decodes
 
       pub tag_further : (t : ℕ) → segments_left path at ≡ t → segments_left path next < t
       unfolding segments_left
-      tag_further t e = rw (← e, segments_step path at (symbol (part path start n)) next here) (one_less _ (segments_from path next) tag_rest)
+      tag_further t e = rw (← e, segments_step path at (symbol name) next here) (one_less _ (segments_from path next) tag_rest)
 
       pub tag_last_lem : length path ≤ next → true ≡ tag_path_from path at
-      tag_last_lem h = symbol_alone (part path start n)
-          ∙ sym (tag_at path at _ next here ∙ ap (λ m. tag_path_by (before (symbol (part path start n)) m)) (segments_end path next h))
+      tag_last_lem h = symbol_alone name ∙ sym (tag_at path at _ next here ∙ ap (λ m. tag_path_by (before (symbol name) m)) (segments_end path next h))
 
-      pub tag-plain : (name : List ℕ) (p : Bool) → name ≡ part path start n → p ≡ is_program_name name → p ≡ false → true ≡ tag_path_from path at
-      tag-plain name p e q f =
-          symbol-plain (part path start n) (segments_from path next) tag_rest (ap is_program_name (sym e) ∙ sym q ∙ f) ∙ sym (tag_at path at _ next here)
+      pub tag-plain : is_program_name name ≡ false → true ≡ tag_path_from path at
+      tag-plain f = symbol-plain name (segments_from path next) tag_rest f ∙ sym (tag_at path at _ next here)
 
-      pub tag_program : (name : List ℕ) (p v : Bool) → name ≡ part path start n → p ≡ is_program_name name → p ≡ true → next < length path
-          → v ≡ tag_path_from path next
-          → v ≡ tag_path_from path at
+      pub tag_program : is_program_name name ≡ true → next < length path → tag_path_from path next ≡ tag_path_from path at
       unfolding tag_path_from
-      tag_program name p v e q f h g =
-          g ∙ symbol_program (part path start n) (segments_from path next) (λ z. no_head path next z h) (ap is_program_name (sym e) ∙ sym q ∙ f)
-          ∙ sym (tag_at path at _ next here)
-
-pub ruleset tag_paths = (tag-port, tag-instance, tag-element, tag-attribute, tag_invalid, tag-class, tag_rest, tag_further, tag_last_lem, tag-plain, tag_program)
+      tag_program f h = symbol_program name (segments_from path next) (λ z. no_head path next z h) f ∙ sym (tag_at path at _ next here)

@@ -1,4 +1,4 @@
-pub mod Decode
+pub mod First
 pub mod Paths
 pub mod Nth
-pub mod Cursor
+pub mod Reading

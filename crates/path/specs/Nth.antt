@@ -1,10 +1,17 @@
--- One segment of a path by its number, counted from 0.
-use Rattle.std.specs.Prelude.{◌≡◌, List, [], ◌∷◌, ℕ, zero, suc, ◌<◌, length}
-use Rattle.std.proofs.Math.Option.{Option, none, some}
+-- The segments of a path by their number, counted from 0.
+use Rattle.std.specs.Prelude.{◌≡◌, List, [], ◌∷◌, ℕ, zero, suc, length, Option, None, Some}
 use Rattle.laws.specs.Items.{items}
-use Rattle.definition.specs.Segment.{Step, cut, segment_at, next_of}
+use Rattle.definition.specs.Segment.{Segment as Defined, Step, cut, segment_at, next_of, segments}
 use Rattle.path.specs.Paths.{step_of, NameInside}
-use Rattle.path.specs.declared.Segment.{Segment}
+use Rattle.path.specs.declared.Step.{Step as Found}
+
+abbrev pub count_by : Option (List Defined) → Option ℕ
+count_by None = None
+count_by (Some l) = Some (length l)
+
+-- how many there are; none where the path does not decode
+unfoldable pub segment_count : List ℕ → Option ℕ
+segment_count path = count_by (segments path)
 
 -- a path's segments, each with the position behind it; none where the path does not decode
 abbrev pub steps_of : (path : List ℕ) → Option (List Step)
@@ -17,8 +24,8 @@ nth (s ∷ l) zero = s
 nth (s ∷ l) (suc i) = nth l i
 
 abbrev pub nth_in : Option (List Step) → ℕ → Step
-nth_in none i = cut
-nth_in (some l) i = nth l i
+nth_in None i = cut
+nth_in (Some l) i = nth l i
 
 -- where the i-th segment starts: the first at 0, each other where the one before it ends
 abbrev pub start_in : Option (List Step) → ℕ → ℕ
@@ -26,10 +33,6 @@ start_in steps zero = 0
 start_in steps (suc i) = next_of (nth_in steps i)
 
 -- the answer r is the path's i-th segment with the position behind it; a symbol's name starts two bytes behind the segment's start and stands in the path
-pub record Nth (path : List ℕ) (i : ℕ) (r : Segment) : Type 0 where
-  pub is : step_of path r ≡ nth_in (steps_of path) i
+pub record Nth (path : List ℕ) (i : ℕ) (r : Option Found) : Type 0 where
+  pub is : step_of r ≡ nth_in (steps_of path) i
   pub name_inside : NameInside path (start_in (steps_of path) i) r
-
--- the same where the path has such a segment
-abbrev pub Reached : (path : List ℕ) (i : ℕ) (r : Segment) → Type 0
-Reached path i r = (l : List Step) → steps_of path ≡ some l → i < length l → Nth path i r

@@ -1,10 +1,11 @@
-// The record over the path bytes: the path, and the position where the reader stands. The functions over it are thin: each takes
-// the record apart and calls a function of the path and the position, which does the work. A read answers with the position behind
-// what it read, and `moved` gives the reader that stands there.
-ghost use Rattle.std.specs.Prelude.{◌≡◌, leb, length};
-ghost use Rattle.path.specs.Cursor.{holds, byte_at, word_at, long_at, taken_at};
-ghost use Rattle.path.specs.Paths.{Decoded, check_of};
-ghost use Rattle.path.specs.Nth.{Nth, Reached};
+// The reader over the path bytes: it stands at a position, reads what stands there, and stands behind it then. Where the path ends too soon it
+// reads nothing and stays.
+ghost use Rattle.std.specs.Prelude.{◌≡◌, leb, length, Option};
+ghost use Rattle.definition.specs.Segment.{segment_at};
+ghost use Rattle.path.specs.Reading.{byte_at, word_at, long_at, Takes, Passed, Reads};
+ghost use Rattle.path.specs.Nth.{segment_count, Nth};
+
+use crate::{Segment, Step};
 
 /// A path and a position in it, or past its end.
 #[derive(Clone, Copy)]
@@ -13,190 +14,91 @@ pub struct Reader<'a> {
     pub at: usize,
 }
 
-/// A byte and the position behind it; `Cut` where the path ends before it.
-#[derive(Clone, Copy)]
-pub enum Byte {
-    Of(u8, usize),
-    Cut,
-}
-
-/// The same of 16 bits.
-#[derive(Clone, Copy)]
-pub enum Word {
-    Of(u16, usize),
-    Cut,
-}
-
-/// The same of 32 bits.
-#[derive(Clone, Copy)]
-pub enum Long {
-    Of(u32, usize),
-    Cut,
-}
-
-/// A part of the path: its start, and the position behind it. An enum holds no reference: `symbol_name` gives a part's bytes.
-#[derive(Clone, Copy)]
-pub enum Taken {
-    From(usize, usize),
-    Cut,
-}
-
-// ---- the work: what stands at a position of a path
-
-/// Whether n bytes stand in the path from a position on.
-fn holds(path: &[u8], at: usize, n: usize) -> bool
-    ensures { result ≡ holds path.now at n }
-{
-    if path.len() < at {
-        return false;
+impl<'a> Reader<'a> {
+    /// A reader that stands at the path's start.
+    pub fn new(path: &'a [u8]) -> Reader<'a>
+        ensures path { result.path ≡ path.entry }
+        ensures at { result.at ≡ 0 }
+    {
+        Reader { path, at: 0 }
     }
-    n <= path.len() - at
-}
 
-/// Whether nothing stands in the path from a position on.
-pub fn ended(path: &[u8], at: usize) -> bool
-    ensures { result ≡ leb (length path.now) at }
-{
-    path.len() <= at
-}
-
-pub fn byte_at(path: &[u8], at: usize) -> Byte
-    ensures { result ≡ byte_at path.now at }
-{
-    if holds(path, at, 1) {
-        return Byte::Of(path[at], at + 1);
+    /// Whether the reader has come to the path's end.
+    pub fn is_empty(&self) -> bool
+        ensures { result ≡ leb (length self.now.path.now) self.now.at }
+    {
+        self.path.len() <= self.at
     }
-    Byte::Cut
-}
 
-pub fn word_at(path: &[u8], at: usize) -> Word
-    ensures { result ≡ word_at path.now at }
-{
-    if holds(path, at, 2) {
-        return Word::Of(cip::u16_at(path, at), at + 2);
+    /// The n bytes from where the reader stands.
+    pub fn take(&mut self, n: usize) -> Option<&'a [u8]>
+        ensures bytes { Takes self.old n result }
+        ensures behind { Passed self.old n self.new }
+    {
+        let path = self.path;
+        let part = path.get(self.at..)?.get(..n)?;
+        self.at += n;
+        Some(part)
     }
-    Word::Cut
-}
 
-pub fn long_at(path: &[u8], at: usize) -> Long
-    ensures { result ≡ long_at path.now at }
-{
-    if holds(path, at, 4) {
-        return Long::Of(cip::u32_at(path, at), at + 4);
+    pub fn u8(&mut self) -> Option<u8>
+        ensures byte { result ≡ byte_at self.old.path.now self.old.at }
+        ensures behind { Passed self.old 1 self.new }
+    {
+        let bytes = self.take(1)?;
+        Some(bytes[0])
     }
-    Long::Cut
-}
 
-pub fn taken_at(path: &[u8], at: usize, n: usize) -> Taken
-    ensures { result ≡ taken_at path.now at n }
-{
-    if holds(path, at, n) {
-        return Taken::From(at, at + n);
+    pub fn u16(&mut self) -> Option<u16>
+        ensures word { result ≡ word_at self.old.path.now self.old.at }
+        ensures behind { Passed self.old 2 self.new }
+    {
+        let bytes = self.take(2)?;
+        Some(cip::u16_at(bytes, 0))
     }
-    Taken::Cut
+
+    pub fn u32(&mut self) -> Option<u32>
+        ensures long { result ≡ long_at self.old.path.now self.old.at }
+        ensures behind { Passed self.old 4 self.new }
+    {
+        let bytes = self.take(4)?;
+        Some(cip::u32_at(bytes, 0))
+    }
+
+    /// The segment where the reader stands; none where it is invalid or cut short.
+    pub fn segment(&mut self) -> Option<Segment<'a>>
+        ensures { Reads self.old result self.new }
+    {
+        let step = crate::segment_at(self.path, self.at)?;
+        self.at = step.next;
+        Some(step.segment)
+    }
 }
 
-// ---- the record
-
-/// A reader that stands at the path's start.
-pub fn new<'a>(path: &'a [u8]) -> Reader<'a>
-    ensures { (result.path ≡ path.entry) × (result.at ≡ 0) }
+/// The number of a path's segments; none where it does not decode.
+pub fn count_segments(path: &[u8]) -> Option<usize>
+    ensures { result ≡ segment_count path.now }
 {
-    Reader { path, at: 0 }
-}
-
-/// The reader of the same path that stands at another position: where a read ended.
-pub fn moved<'a>(r: Reader<'a>, at: usize) -> Reader<'a>
-    ensures { (result.path ≡ r.entry.path) × (result.at ≡ at) }
-{
-    Reader { path: r.path, at }
-}
-
-/// Whether the reader has come to the path's end.
-pub fn is_empty<'a>(r: Reader<'a>) -> bool
-    ensures { result ≡ leb (length r.entry.path.now) r.entry.at }
-{
-    ended(r.path, r.at)
-}
-
-/// The byte where the reader stands.
-pub fn u8<'a>(r: Reader<'a>) -> Byte
-    ensures { result ≡ byte_at r.entry.path.now r.entry.at }
-{
-    byte_at(r.path, r.at)
-}
-
-/// The 16-bit number where the reader stands.
-pub fn u16<'a>(r: Reader<'a>) -> Word
-    ensures { result ≡ word_at r.entry.path.now r.entry.at }
-{
-    word_at(r.path, r.at)
-}
-
-/// The 32-bit number where the reader stands.
-pub fn u32<'a>(r: Reader<'a>) -> Long
-    ensures { result ≡ long_at r.entry.path.now r.entry.at }
-{
-    long_at(r.path, r.at)
-}
-
-/// The n bytes from where the reader stands.
-pub fn take<'a>(r: Reader<'a>, n: usize) -> Taken
-    ensures { result ≡ taken_at r.entry.path.now r.entry.at n }
-{
-    taken_at(r.path, r.at, n)
-}
-
-/// The segment where the reader stands, with the position of the next one; `Invalid` where it is cut short.
-pub fn segment<'a>(r: Reader<'a>) -> crate::Segment
-    ensures { Decoded r.entry.path.now r.entry.at result }
-{
-    crate::segment_at(r.path, r.at)
-}
-
-// ---- plain parameters: whoever calls this needs no walk
-
-/// The number of a path's segments: one reader goes over the path, segment by segment.
-pub fn count_segments(path: &[u8]) -> crate::Check
-    ensures { result ≡ check_of path.now }
-{
-    let mut r = new(path);
+    let mut r = Reader::new(path);
     let mut count = 0;
-    while !is_empty(r) {
-        let next = crate::next_of(segment(r));
-        if next == 0 {
-            return crate::Check::Bad;
-        }
+    while !r.is_empty() {
+        r.segment()?;
         count += 1;
-        r = moved(r, next);
     }
-    crate::Check::Segments(count)
+    Some(count)
 }
 
-/// A path's i-th segment, if it has one: a reader goes over i segments and reads the one where it stands.
-fn reached(path: &[u8], i: usize) -> crate::Segment
-    ensures { Reached path.now i result }
-{
-    let mut r = new(path);
-    let mut left = i;
-    while left > 0 {
-        r = moved(r, crate::next_of(segment(r)));
-        left -= 1;
-    }
-    segment(r)
-}
-
-/// A path's i-th segment, counted from 0; `Invalid` behind the last one, and in a path that does not decode.
-pub fn nth_segment(path: &[u8], i: usize) -> crate::Segment
+/// A path's i-th segment, counted from 0, with the position behind it; none behind the last one, and in a path that does not decode.
+pub fn nth_segment<'a>(path: &'a [u8], i: usize) -> Option<Step<'a>>
     ensures { Nth path.now i result }
 {
-    match count_segments(path) {
-        crate::Check::Segments(n) => {
-            if i < n {
-                return reached(path, i);
-            }
-            crate::Segment::Invalid
-        }
-        crate::Check::Bad => crate::Segment::Invalid,
+    let n = count_segments(path)?;
+    if n <= i {
+        return None;
     }
+    let mut r = Reader::new(path);
+    for _ in 0..i {
+        r.segment()?;
+    }
+    crate::segment_at(path, r.at)
 }

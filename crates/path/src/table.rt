@@ -1,107 +1,115 @@
-// What the first byte of a segment says, one entry for each byte: four times the segment's kind, plus the form in which what follows is written.
+// What the first byte of a segment says: a constant table of 256 entries, one for each byte.
 ghost use Rattle.std.specs.Prelude.{◌≡◌};
-ghost use Rattle.path.specs.Decode.{entry_of};
+ghost use Rattle.path.specs.First.{first_of};
 
-// Kinds of segments; a logical segment's kind is its logical type.
+/// What a segment's first byte begins.
+#[derive(Clone, Copy)]
+pub enum First {
+    /// A port: whether 16 bits with its number follow, and whether its link has its size.
+    Port { numbered: bool, sized: bool },
+    /// A logical segment, by its logical type and its format.
+    Logical(Logical, Format),
+    /// The ANSI extended symbol.
+    Symbol,
+}
 
-pub const NO_KIND: u8 = 0;
+/// The logical types that are taken.
+#[derive(Clone, Copy)]
+pub enum Logical {
+    Class,
+    Instance,
+    Element,
+    Attribute,
+}
 
-pub const PORT_KIND: u8 = 1;
-
-pub const CLASS_KIND: u8 = 2;
-
-pub const INSTANCE_KIND: u8 = 3;
-
-pub const ELEMENT_KIND: u8 = 4;
-
-pub const ATTRIBUTE_KIND: u8 = 5;
-
-pub const SYMBOL_KIND: u8 = 6;
-
-// Forms of a logical segment's value: its format.
-
-pub const BITS_8: u8 = 0;
-
-pub const PAD_AND_16: u8 = 1;
-
-pub const PAD_AND_32: u8 = 2;
-
-pub const RESERVED: u8 = 3;
-
-// Forms of a port: what follows its first byte.
-
-pub const LINK: u8 = 0;
-
-pub const SIZE_AND_LINK: u8 = 1;
-
-pub const NUMBER_AND_LINK: u8 = 2;
-
-pub const NUMBER_SIZE_AND_LINK: u8 = 3;
+/// How a logical segment's value is written.
+#[derive(Clone, Copy)]
+pub enum Format {
+    Bits8,
+    PadAnd16,
+    PadAnd32,
+    Reserved,
+}
 
 // Four first bytes each, which differ in bits 1 and 0.
 
 /// No segment that is taken.
-const NONE: [u8; 4] = [4 * NO_KIND; 4];
+const NONE: [Option<First>; 4] = [None, None, None, None];
 
 /// Class in its four formats.
-const CLASS: [u8; 4] = [
-    4 * CLASS_KIND + BITS_8,
-    4 * CLASS_KIND + PAD_AND_16,
-    4 * CLASS_KIND + PAD_AND_32,
-    4 * CLASS_KIND + RESERVED,
+const CLASS: [Option<First>; 4] = [
+    Some(First::Logical(Logical::Class, Format::Bits8)),
+    Some(First::Logical(Logical::Class, Format::PadAnd16)),
+    Some(First::Logical(Logical::Class, Format::PadAnd32)),
+    Some(First::Logical(Logical::Class, Format::Reserved)),
 ];
 
 /// Instance in its four formats.
-const INSTANCE: [u8; 4] = [
-    4 * INSTANCE_KIND + BITS_8,
-    4 * INSTANCE_KIND + PAD_AND_16,
-    4 * INSTANCE_KIND + PAD_AND_32,
-    4 * INSTANCE_KIND + RESERVED,
+const INSTANCE: [Option<First>; 4] = [
+    Some(First::Logical(Logical::Instance, Format::Bits8)),
+    Some(First::Logical(Logical::Instance, Format::PadAnd16)),
+    Some(First::Logical(Logical::Instance, Format::PadAnd32)),
+    Some(First::Logical(Logical::Instance, Format::Reserved)),
 ];
 
 /// Element in its four formats.
-const ELEMENT: [u8; 4] = [
-    4 * ELEMENT_KIND + BITS_8,
-    4 * ELEMENT_KIND + PAD_AND_16,
-    4 * ELEMENT_KIND + PAD_AND_32,
-    4 * ELEMENT_KIND + RESERVED,
+const ELEMENT: [Option<First>; 4] = [
+    Some(First::Logical(Logical::Element, Format::Bits8)),
+    Some(First::Logical(Logical::Element, Format::PadAnd16)),
+    Some(First::Logical(Logical::Element, Format::PadAnd32)),
+    Some(First::Logical(Logical::Element, Format::Reserved)),
 ];
 
 /// Attribute in its four formats.
-const ATTRIBUTE: [u8; 4] = [
-    4 * ATTRIBUTE_KIND + BITS_8,
-    4 * ATTRIBUTE_KIND + PAD_AND_16,
-    4 * ATTRIBUTE_KIND + PAD_AND_32,
-    4 * ATTRIBUTE_KIND + RESERVED,
+const ATTRIBUTE: [Option<First>; 4] = [
+    Some(First::Logical(Logical::Attribute, Format::Bits8)),
+    Some(First::Logical(Logical::Attribute, Format::PadAnd16)),
+    Some(First::Logical(Logical::Attribute, Format::PadAnd32)),
+    Some(First::Logical(Logical::Attribute, Format::Reserved)),
 ];
+
+const LINK: Option<First> = Some(First::Port {
+    numbered: false,
+    sized: false,
+});
+
+const SIZE_AND_LINK: Option<First> = Some(First::Port {
+    numbered: false,
+    sized: true,
+});
+
+const NUMBER_AND_LINK: Option<First> = Some(First::Port {
+    numbered: true,
+    sized: false,
+});
+
+const NUMBER_SIZE_AND_LINK: Option<First> = Some(First::Port {
+    numbered: true,
+    sized: true,
+});
 
 /// Ports whose link is one byte.
-const PORT: [u8; 4] = [4 * PORT_KIND + LINK; 4];
+const PORT: [Option<First>; 4] = [LINK, LINK, LINK, LINK];
 
 /// The last is port 15, whose number follows.
-const PORT_15: [u8; 4] = [
-    4 * PORT_KIND + LINK,
-    4 * PORT_KIND + LINK,
-    4 * PORT_KIND + LINK,
-    4 * PORT_KIND + NUMBER_AND_LINK,
-];
+const PORT_15: [Option<First>; 4] = [LINK, LINK, LINK, NUMBER_AND_LINK];
 
 /// Ports whose link has its size.
-const SIZED: [u8; 4] = [4 * PORT_KIND + SIZE_AND_LINK; 4];
+const SIZED: [Option<First>; 4] = [SIZE_AND_LINK, SIZE_AND_LINK, SIZE_AND_LINK, SIZE_AND_LINK];
 
 /// The last is port 15, whose number follows.
-const SIZED_15: [u8; 4] = [
-    4 * PORT_KIND + SIZE_AND_LINK,
-    4 * PORT_KIND + SIZE_AND_LINK,
-    4 * PORT_KIND + SIZE_AND_LINK,
-    4 * PORT_KIND + NUMBER_SIZE_AND_LINK,
+const SIZED_15: [Option<First>; 4] = [
+    SIZE_AND_LINK,
+    SIZE_AND_LINK,
+    SIZE_AND_LINK,
+    NUMBER_SIZE_AND_LINK,
 ];
 
 /// The second, 0x91, is the symbol.
-const SYMBOL: [u8; 4] = [4 * NO_KIND, 4 * SYMBOL_KIND, 4 * NO_KIND, 4 * NO_KIND];
+const SYMBOL: [Option<First>; 4] = [None, Some(First::Symbol), None, None];
 
 /// A row for each segment type (bits 7 to 5), in it a name for each logical type (bits 4 to 2), under which stand the four formats (bits 1 and 0).
-const SEGMENT_KINDS: [[[u8; 4]; 8]; 8] = [
+const FIRST_BYTES: [[[Option<First>; 4]; 8]; 8] = [
     // 0x00, port: bit 4 says that the link has its size, bits 3 to 0 are the port's number
     [PORT, PORT, PORT, PORT_15, SIZED, SIZED, SIZED, SIZED_15],
     // 0x20, logical: connection points, special segments and services are not taken
@@ -119,12 +127,12 @@ const SEGMENT_KINDS: [[[u8; 4]; 8]; 8] = [
     [NONE, NONE, NONE, NONE, NONE, NONE, NONE, NONE],
 ];
 
-/// The entry of a first byte.
-pub fn entry_of(b: u8) -> u8
-    ensures { result ≡ entry_of b }
+/// The entry of a first byte: what it begins, if it begins a segment that is taken.
+pub fn first_of(b: u8) -> Option<First>
+    ensures { result ≡ first_of b }
 {
     let segment_type = b / 0x20;
     let logical_type = b / 4 % 8;
     let format = b % 4;
-    SEGMENT_KINDS[segment_type as usize][logical_type as usize][format as usize]
+    FIRST_BYTES[segment_type as usize][logical_type as usize][format as usize]
 }

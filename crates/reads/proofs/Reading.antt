@@ -1,17 +1,18 @@
 -- Reads: the refusals as the code has them, and a fragment's reply by its pieces, laid out.
 -- Assumes nothing.
-use mathlib.Core.Path.{◌≡◌, refl, sym, ap, ◌∙◌}
+use mathlib.Core.Path.{◌≡◌, refl, sym, ◌∙◌}
 use mathlib.Core.Bool.{false}
 use mathlib.Core.Logic.{◌≢◌}
 use mathlib.Core.List.{List, [], ◌∷◌, ◌++◌, append_assoc}
-use Prim.Native.Nat.{ℕ, ◌+◌, ◌-◌, ◌*◌, ◌≤◌, ◌<◌}
+use Prim.Native.Nat.{ℕ, ◌+◌, ◌*◌, ◌≤◌, ◌<◌}
 use native.Mathlib.Omega.{arith}
 use lib.Dec.{ltb, eqb}
-use lib.ListN.{length, get_or, drop, length-append, length-drop}
-use borrow.Author.Tests.{eq-eqb, ne_eqb, lt-leb, ltb-false, eqb-true}
+use lib.ListN.{length, get_or, take, length-append}
+use lib.Seq.{length-take-le}
+use borrow.Author.Tests.{eq-eqb, ne_eqb, ltb-false, eqb-true}
 use Rattle.laws.specs.Put.{put, zeroed}
 use Rattle.laws.proofs.Chain.{by_test, pick_all, clash}
-use Rattle.laws.proofs.Put.{put_then, length_part, part_of_part}
+use Rattle.laws.proofs.Put.{put_then}
 use Rattle.definition.specs.Bytes.{part}
 use Rattle.definition.specs.Reply.{Status, general, extended, reply, fail, room}
 use Rattle.definition.specs.Tables.{Row, no_bit}
@@ -24,8 +25,7 @@ use Rattle.cip.specs.Statuses.{status_of, has_word}
 use Rattle.cip.specs.Writes.{Written, Laid}
 use Rattle.cip.proofs.Laws.{finished}
 use Rattle.reads.specs.Reading.{grant_of, asked_by, header_size}
-use Rattle.reads.specs.declared.Grant.{Grant}
-use Rattle.reads.specs.declared.Grant.TheVariants.{Granted, Refused}
+use Rattle.std.specs.Prelude.{Result, Ok, Err}
 use Rattle.cip.specs.declared.Status.{Status as CodeStatus}
 
 -- ---- what is asked
@@ -39,7 +39,7 @@ ask_by structures g elements =
     (λ e. by_test (eqb elements 1) (λ o. simp (e, o)) (λ o. simp (e, o)))
 
 -- a granted read asks for no more elements than there are
-pub granted-few : (bit count elements : ℕ) (v : Grant) → 0 < count → v ≡ grant_of bit count elements → v ≡ Granted → elements ≤ count
+pub granted-few : (bit count elements : ℕ) (v : Result (Unit {0}) CodeStatus) → 0 < count → v ≡ grant_of bit count elements → v ≡ Ok tt → elements ≤ count
 granted-few bit count elements v h p q =
     let e = sym p ∙ q in
     by_test (eqb bit no_bit)
@@ -47,17 +47,18 @@ granted-few bit count elements v h p q =
     (λ z. by_test (ltb count elements) (λ l. clash (cc (rw (b, z, l) at e))) (λ l. ltb-false count elements l)))
     (λ b. by_test (eqb elements 1) (λ o. omega (arith, eqb-true elements 1 o)) (λ o. clash (cc (rw (b, o) at e))))
 
-module _ (structures : List Row) (memory : List ℕ) (service : ℕ) (g : Target) (elements offset limit : ℕ) (old z : List ℕ) (r : ℕ) (v : Grant)
+module _ (structures : List Row) (memory : List ℕ) (service : ℕ) (g : Target) (elements offset limit : ℕ) (old z : List ℕ) (r : ℕ)
+    (v : Result (Unit {0}) CodeStatus)
     (asked : v ≡ grant_of g.bit g.count elements) where
   read_by : read_at structures memory service g elements offset limit ≡ send service (asked_by (selection structures g elements) v) memory offset limit
   unfolding read_at
   read_by = rw (ask_by structures g elements, ← asked)
 
-  pub read_granted : v ≡ Granted → Laid limit (send service (granted (selection structures g elements)) memory offset limit) old r z
+  pub read_granted : v ≡ Ok tt → Laid limit (send service (granted (selection structures g elements)) memory offset limit) old r z
       → Laid limit (read_at structures memory service g elements offset limit) old r z
   read_granted e d = rw (read_by, e) d
 
-  pub read_refused : (s : CodeStatus) → v ≡ Refused s → Laid limit (fail service (status_of s)) old r z
+  pub read_refused : (s : CodeStatus) → v ≡ Err s → Laid limit (fail service (status_of s)) old r z
       → Laid limit (read_at structures memory service g elements offset limit) old r z
   read_refused s e d = rw (read_by, e) d
 
@@ -81,6 +82,8 @@ unfolding reply
 reply-join service (general code) bytes = refl
 reply-join service (extended code word) bytes = refl
 
+pub ruleset headers = (plain_start, header-length, header-few)
+
 -- a reply's header, a type header and the bytes behind it, written one after the other
 pub fragment_put : (service type used h : ℕ) (s : Status) (structures : List Row) (bytes old x y z : List ℕ) → has_word s ≡ false
     → 4 + header_size type + length bytes ≤ length old
@@ -99,42 +102,33 @@ fragment_put service type used h s structures bytes old x y z plain fits a b d =
     let m = length-append (reply service s [] ++ type_header structures type) bytes in
     rw (← e) (record { length_is = omega arith; buffer_is = three })
 
--- what is sent of the bytes due stands in the store, and has room behind a type header, whatever the limit
-pub sent_inside : (store : List ℕ) (start size offset s n : ℕ) → start + size ≤ length store → offset < size → n ≡ size_of (size - offset) s
-    → start + offset + n ≤ length store
-sent_inside store start size offset s n inside rest cut = omega (arith, size_le (size - offset) s)
+-- so much of a chunk is sent as fits behind a type header
+module _ (type limit : ℕ) (chunk : List ℕ) (h s n : ℕ) (header : h ≡ header_size type) (fits : s ≡ space h limit) (cut : n ≡ size_of (length chunk) s) where
+  pub sent-length : n ≡ length (take n chunk)
+  sent-length = sym (length-take-le n chunk (omega (arith, size_le (length chunk) s)))
 
-module _ (type limit : ℕ) (store bytes : List ℕ) (start size offset h s n : ℕ) (inside : start + size ≤ length store) (rest : offset < size)
-    (header : h ≡ header_size type) (fits : s ≡ space h limit) (cut : n ≡ size_of (size - offset) s) (sent : bytes ≡ part store (start + offset) n) where
-  pub fragment_fits : (m : ℕ) → room limit ≤ m → 4 + header_size type + length bytes ≤ m
-  fragment_fits m k =
-      let l = length_part store (start + offset) n (sent_inside store start size offset s n inside rest cut) in
-      rw (sent, l) (omega (arith, header-few type, size_fits (size - offset) s))
+  pub chunk_fits : (m : ℕ) → room limit ≤ m → 4 + header_size type + length (take n chunk) ≤ m
+  chunk_fits m k = omega (arith, sent-length, header-few type, size_fits (length chunk) s)
 
-  module _ (service : ℕ) (structures : List Row) (status : Status) (said : status ≡ general (fragmentStatus (size - offset) s)) where
-    fragment_length : length (reply service status (type_header structures type ++ bytes)) ≤ room limit
+  module _ (service : ℕ) (structures : List Row) (status : Status) (said : status ≡ general (fragmentStatus (length chunk) s)) where
+    abbrev whole : List ℕ
+    whole = reply service status (type_header structures type ++ take n chunk)
+
+    whole_fits : length whole ≤ room limit
     unfolding reply
-    fragment_length =
-        let a = length-append (type_header structures type) bytes in
-        let b = header-length structures type in
-        let f = fragment_fits (room limit) (omega arith) in
-        rw said (omega arith)
+    whole_fits =
+        let sent = chunk_fits (room limit) (omega arith) in
+        let both = length-append (type_header structures type) (take n chunk) in
+        rw said (omega (arith, header-length structures type))
 
-    pub fragment_used : (old x : List ℕ) (used : ℕ) → Written 0 (reply service status (type_header structures type ++ bytes)) old used x → used ≤ room limit
-    fragment_used old x used w = omega (arith, w.length_is, fragment_length)
+    pub chunk_used : (old x : List ℕ) (used : ℕ) → Written 0 whole old used x → used ≤ room limit
+    chunk_used old x used w = omega (arith, w.length_is, whole_fits)
 
-    sends : send_from service (type_header structures type) (part store start size) offset limit ≡ reply service status (type_header structures type ++ bytes)
-    unfolding send_from fragment_reply
-    sends =
-        let l = length_part store start size inside in
-        let m : length (drop offset (part store start size)) ≡ size - offset = length-drop offset (part store start size) ∙ ap (λ (k : ℕ). k - offset) l in
-        let p = part_of_part store start size offset n (omega (arith, size_le (size - offset) s)) in
-        rw (l, lt-leb size offset rest, m, header-length structures type, ← header, ← fits, ← cut, ← said, sent, p)
-
-    pub fragment_laid : (old x z : List ℕ) (used r : ℕ) → room limit ≤ length old
-        → Written 0 (reply service status (type_header structures type ++ bytes)) old used x → r ≡ used → z ≡ zeroed used (room limit) x
-        → Laid limit (send_from service (type_header structures type) (part store start size) offset limit) old r z
-    fragment_laid old x z used r k w e f = rw sends (finished _ _ _ _ _ _ _ w e f fragment_length k)
+    pub chunk_sent : (old x z : List ℕ) (used r : ℕ) → room limit ≤ length old → Written 0 whole old used x → r ≡ used → z ≡ zeroed used (room limit) x
+        → Laid limit (fragment_reply service (type_header structures type) chunk limit) old r z
+    unfolding fragment_reply
+    chunk_sent old x z used r k w e f =
+        rw (header-length structures type, ← header, ← fits, ← cut, ← said) (finished _ _ _ _ _ _ _ w e f whole_fits k)
 
 -- ---- what is selected
 

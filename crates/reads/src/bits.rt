@@ -2,15 +2,12 @@
 ghost use Rattle.std.specs.Prelude.{◌≡◌, ◌^◌, ◌<◌};
 ghost use Rattle.definition.specs.Read.{bit_of};
 
-// The values of a byte's bits.
-const BIT_VALUES: [u8; 8] = [1, 2, 4, 8, 16, 32, 64, 128];
-
 /// The value of bit k.
 pub fn bit_value(k: u32) -> u8
     requires { k < 8 }
     ensures { result ≡ 2 ^ k }
 {
-    BIT_VALUES[k as usize]
+    1 << k
 }
 
 /// Bit k of a byte, as the BOOL that it reads as.
@@ -18,5 +15,5 @@ pub fn bit_of(b: u8, k: u32) -> u8
     requires { k < 8 }
     ensures { result ≡ bit_of b k }
 {
-    b / bit_value(k) % 2
+    b >> k & 1
 }

@@ -5,79 +5,94 @@
 pub mod bits;
 
 ghost use Rattle.std.specs.Prelude.{◌≡◌, false, [], ◌++◌, ◌+◌, ◌≤◌, length};
-ghost use Rattle.laws.specs.Pick.{pick};
-ghost use Rattle.definition.specs.Bytes.{part};
 ghost use Rattle.definition.specs.Reply.{reply, general, room};
 ghost use Rattle.definition.specs.Types.{type_header};
-ghost use Rattle.definition.specs.Fragment.{space, rounded, size_of, status_of as fragmentStatus};
+ghost use Rattle.definition.specs.Fragment.{space, rounded, size_of, status_of as fragmentStatus, fragment_reply};
 ghost use Rattle.definition.specs.Read.{granted, selection, send_from, send, read_at, read_fields};
 ghost use Rattle.cip.specs.Statuses.{status_of, has_word};
 ghost use Rattle.cip.specs.Writes.{Written, Laid};
 ghost use Rattle.model.specs.Tables.{target_of, Aimed};
-ghost use Rattle.reads.specs.Reading.{fields_as, grant_of, header_size};
+ghost use Rattle.definition.specs.Bytes.{part};
+ghost use Rattle.reads.specs.Reading.{stored, fields_as, grant_of, header_size};
 
 use cip::Status;
 use cip::codes::READ_FRAGMENTED;
-use model::Target;
 use model::columns::NO_BIT;
 use model::types::FIRST_STRUCTURE;
+use model::{Tables, Target};
 
-/// What a read is asked for: elements and offset, or data is missing.
+/// What a read is asked for: so many elements, from an offset into them on.
 #[derive(Clone, Copy)]
-pub enum ReadFields {
-    Of(usize, usize),
-    Short,
+pub struct ReadFields {
+    pub elements: usize,
+    pub offset: usize,
 }
 
-/// Whether a read may send something, offset aside.
-#[derive(Clone, Copy)]
-pub enum Grant {
-    Granted,
-    Refused(Status),
+/// What a read's data says, unless some of it is missing: 0x4C brings an element count and has offset 0, 0x52 an offset behind the count. What
+/// follows is ignored.
+#[tactic(auto, using(laws::proofs::Chain::chain), unfolding(definition::specs::Read::read_fields))]
+pub fn read_fields(service: u8, body: &[u8]) -> Option<ReadFields>
+    ensures { fields_as result ≡ read_fields service body.now }
+{
+    if body.len() < 2 {
+        return None;
+    }
+    let elements = usize::from(cip::u16_at(body, 0));
+    if service != READ_FRAGMENTED {
+        return Some(ReadFields {
+            elements,
+            offset: 0,
+        });
+    }
+    if body.len() < 6 {
+        return None;
+    }
+    let offset = cip::u32_at(body, 2) as usize;
+    Some(ReadFields { elements, offset })
 }
 
-/// What a reply goes by: the service, the offset into what is due, and the limit.
+/// The two stores that a fragment may come from.
 #[derive(Clone, Copy)]
-struct Sending {
-    service: u8,
-    offset: usize,
-    limit: usize,
+pub enum Store {
+    Templates,
+    Memory,
 }
 
-/// A part of one of two stores: template text, or tag memory.
+/// A part of one of two stores, whichever holds it: template text, or tag memory.
 pub fn chunk<'a>(
     templates: &'a [u8],
     memory: &'a [u8],
-    from_templates: bool,
+    store: Store,
     at: usize,
     n: usize,
 ) -> &'a [u8]
-    requires { at + n ≤ length (pick from_templates templates.now memory.now) }
-    ensures { result.now ≡ part (pick from_templates templates.now memory.now) at n }
+    requires { at + n ≤ length (stored store templates.now memory.now) }
+    ensures { result.now ≡ part (stored store templates.now memory.now) at n }
 {
-    if from_templates {
-        return &templates[at..at + n];
-    }
-    &memory[at..at + n]
+    let bytes = match store {
+        Store::Templates => templates,
+        Store::Memory => memory,
+    };
+    &bytes[at..at + n]
 }
 
 /// What a read's refusals say, in order: a bit is one element, no elements, more than there are.
-pub fn ask_of(bit: u32, count: usize, elements: usize) -> Grant
-    ensures { result ≡ grant_of bit count elements }
+pub fn ask_of(g: Target, elements: usize) -> Result<(), Status>
+    ensures { result ≡ grant_of g.bit g.count elements }
 {
-    if bit != NO_BIT {
+    if g.bit != NO_BIT {
         if elements == 1 {
-            return Grant::Granted;
+            return Ok(());
         }
-        return Grant::Refused(Status::BeyondEnd);
+        return Err(Status::BeyondEnd);
     }
     if elements == 0 {
-        return Grant::Refused(Status::NoElements);
+        return Err(Status::NoElements);
     }
-    if count < elements {
-        return Grant::Refused(Status::BeyondEnd);
+    if g.count < elements {
+        return Err(Status::BeyondEnd);
     }
-    Grant::Granted
+    Ok(())
 }
 
 /// The length of a type header.
@@ -87,14 +102,15 @@ pub fn header_size(ty: u32) -> usize
     if ty < FIRST_STRUCTURE { 2 } else { 4 }
 }
 
-/// The room that a header of h bytes leaves for data.
+/// The room that a type header of h bytes leaves for data.
 fn space_of(h: usize, limit: usize) -> usize
-    requires { h ≤ 4 }
     ensures { result ≡ space h limit }
 {
-    if limit < 4 + h { 0 } else { limit - 4 - h }
+    cip::replies::space_of(limit).saturating_sub(h)
 }
 
+/// Rounded down to a multiple of 4, if that is not 0.
+#[tactic(auto, using(laws::proofs::Chain::chain), unfolding(definition::specs::Fragment::rounded))]
 fn rounded_of(s: usize) -> usize
     ensures { result ≡ rounded s }
 {
@@ -102,137 +118,118 @@ fn rounded_of(s: usize) -> usize
 }
 
 /// How many of the bytes due are sent: only a cut is rounded, the last chunk is sent whole.
+#[tactic(auto, using(laws::proofs::Chain::chain), unfolding(definition::specs::Fragment::size_of))]
 fn size_of(due: usize, s: usize) -> usize
     ensures { result ≡ size_of due s }
 {
-    if due <= s {
-        return due;
-    }
-    rounded_of(s)
+    if due <= s { due } else { rounded_of(s) }
 }
 
+#[tactic(auto, using(laws::proofs::Chain::chain), unfolding(definition::specs::Fragment::status_of))]
 fn status_of(due: usize, s: usize) -> Status
     ensures { status_of result ≡ general (fragmentStatus due s) }
 {
-    if s < due {
-        return Status::Partial;
+    if due <= s {
+        Status::Success
+    } else {
+        Status::Partial
     }
-    Status::Success
 }
 
 /// A reply's header, the type header and the data; returns their length.
+#[tactic(auto, using(crate::proofs::Reading::headers))]
 fn put_fragment(
     buf: &mut [u8],
-    structures: &[[u32; 10]],
+    t: &Tables,
     ty: u32,
     service: u8,
     status: Status,
     bytes: &[u8],
 ) -> usize
     requires { (has_word (status_of status) ≡ false) × (8 ≤ length buf.old) × (4 + header_size ty + length bytes.now ≤ length buf.old) }
-    ensures { Written 0 (reply service (status_of status) (type_header structures.now ty ++ bytes.now)) buf.old result
+    ensures { Written 0 (reply service (status_of status) (type_header t.now.structures.now ty ++ bytes.now)) buf.old result
         buf.new }
 {
     let used = cip::put_header(buf, service, status);
-    let behind = used + model::types::put_type_header(buf, used, structures, ty);
+    let behind = used + model::types::put_type_header(buf, used, t.structures, ty);
     cip::copy_into(buf, behind, bytes);
     behind + bytes.len()
 }
 
-/// Sends `size` bytes of a store from an offset on, as many as fit; the offset is checked last.
-fn send_from<'a>(
-    structures: &[[u32; 10]],
-    templates: &'a [u8],
-    store: &'a [u8],
+/// Sends as many bytes of a chunk as fit.
+fn send_chunk(t: &Tables, chunk: &[u8], ty: u32, service: u8, limit: usize, buf: &mut [u8]) -> usize
+    requires { room limit ≤ length buf.old }
+    ensures { Laid limit (fragment_reply service (type_header t.now.structures.now ty) chunk.now limit) buf.old result
+        buf.new }
+{
+    let due = chunk.len();
+    let s = space_of(header_size(ty), limit);
+    let bytes = &chunk[..size_of(due, s)];
+    let used = put_fragment(buf, t, ty, service, status_of(due, s), bytes);
+    cip::finish(buf, limit, used)
+}
+
+/// Sends the bytes of a value from an offset on; the offset is checked last.
+#[tactic(auto, using(laws::proofs::Chain::chain), unfolding(definition::specs::Read::send_from))]
+fn send_from(
+    t: &Tables,
+    value: &[u8],
     ty: u32,
-    start: usize,
-    size: usize,
-    q: Sending,
-    buf: &mut [u8],
-) -> usize
-    requires { (start + size ≤ length store.now) × (room q.limit ≤ length buf.old) }
-    ensures { Laid q.limit (send_from q.service (type_header structures.now ty) (part store.now start size)
-        q.offset q.limit) buf.old result buf.new }
-{
-    if size <= q.offset {
-        return cip::fail(buf, q.limit, q.service, Status::BeyondEnd);
-    }
-    let due = size - q.offset;
-    let s = space_of(header_size(ty), q.limit);
-    let n = size_of(due, s);
-    let bytes = chunk(templates, store, false, start + q.offset, n);
-    let used = put_fragment(buf, structures, ty, q.service, status_of(due, s), bytes);
-    cip::finish(buf, q.limit, used)
-}
-
-/// Sends what a granted read selects: a bit as one BOOL byte, else so many elements.
-fn send_selected<'a>(
-    structures: &[[u32; 10]],
-    templates: &'a [u8],
-    memory: &'a [u8],
-    g: Target,
-    elements: usize,
-    q: Sending,
-    buf: &mut [u8],
-) -> usize
-    requires { Aimed structures.now (length memory.now) g × (elements ≤ g.count) × (room q.limit ≤ length buf.old) }
-    ensures { Laid q.limit (send q.service (granted (selection structures.now (target_of g []) elements))
-        memory.now q.offset q.limit) buf.old result buf.new }
-{
-    let start = g.start;
-    if g.bit != NO_BIT {
-        let value = [crate::bits::bit_of(memory[start], g.bit)];
-        return send_from(structures, templates, &value, g.ty, 0, 1, q, buf);
-    }
-    let size = elements * g.size;
-    send_from(structures, templates, memory, g.ty, start, size, q, buf)
-}
-
-/// What a read's data says: 0x4C brings an element count and has offset 0, 0x52 an offset behind the count. What
-/// follows is ignored.
-pub fn read_fields(service: u8, body: &[u8]) -> ReadFields
-    ensures { fields_as result ≡ read_fields service body.now }
-{
-    if service == READ_FRAGMENTED {
-        if body.len() < 6 {
-            return ReadFields::Short;
-        }
-        let offset = cip::numbers::wide(cip::u32_at(body, 2));
-        return ReadFields::Of(cip::numbers::wide16(cip::u16_at(body, 0)), offset);
-    }
-    if body.len() < 2 {
-        return ReadFields::Short;
-    }
-    ReadFields::Of(cip::numbers::wide16(cip::u16_at(body, 0)), 0)
-}
-
-/// One read of a resolved target, whoever decoded it; returns the reply's length.
-pub fn read<'a>(
-    structures: &[[u32; 10]],
-    templates: &'a [u8],
-    memory: &'a [u8],
     service: u8,
-    g: Target,
-    elements: usize,
     offset: usize,
     limit: usize,
     buf: &mut [u8],
 ) -> usize
-    requires { Aimed structures.now (length memory.now) g × (room limit ≤ length buf.old) }
-    ensures { Laid limit (read_at structures.now memory.now service (target_of g []) elements offset limit)
+    requires { room limit ≤ length buf.old }
+    ensures { Laid limit (send_from service (type_header t.now.structures.now ty) value.now offset limit) buf.old result
+        buf.new }
+{
+    if value.len() <= offset {
+        return cip::fail(buf, limit, service, Status::BeyondEnd);
+    }
+    send_chunk(t, &value[offset..], ty, service, limit, buf)
+}
+
+/// Sends what a granted read selects: a bit as one BOOL byte, else so many elements.
+fn send_selected(
+    t: &Tables,
+    memory: &[u8],
+    service: u8,
+    g: Target,
+    fields: ReadFields,
+    limit: usize,
+    buf: &mut [u8],
+) -> usize
+    requires { Aimed t.now.structures.now (length memory.now) g × (fields.elements ≤ g.count) × (room limit ≤ length buf.old) }
+    ensures { Laid limit (send service (granted (selection t.now.structures.now (target_of g []) fields.elements))
+        memory.now fields.offset limit) buf.old result buf.new }
+{
+    let start = g.start;
+    if g.bit != NO_BIT {
+        let value = [bits::bit_of(memory[start], g.bit)];
+        return send_from(t, &value, g.ty, service, fields.offset, limit, buf);
+    }
+    let size = fields.elements * g.size;
+    let value = chunk(t.templates, memory, Store::Memory, start, size);
+    send_from(t, value, g.ty, service, fields.offset, limit, buf)
+}
+
+/// One read of a resolved target, whoever decoded it; returns the reply's length.
+pub fn read(
+    t: &Tables,
+    memory: &[u8],
+    service: u8,
+    g: Target,
+    fields: ReadFields,
+    limit: usize,
+    buf: &mut [u8],
+) -> usize
+    requires { Aimed t.now.structures.now (length memory.now) g × (room limit ≤ length buf.old) }
+    ensures { Laid limit (read_at t.now.structures.now memory.now service (target_of g []) fields.elements fields.offset limit)
         buf.old result buf.new }
 {
-    let q = Sending {
-        service: service,
-        offset: offset,
-        limit: limit,
-    };
-    match ask_of(g.bit, g.count, elements) {
-        Grant::Granted => {
-            return send_selected(structures, templates, memory, g, elements, q, buf);
-        }
-        Grant::Refused(s) => {
-            return cip::fail(buf, limit, service, s);
-        }
+    match ask_of(g, fields.elements) {
+        Ok(()) => send_selected(t, memory, service, g, fields, limit, buf),
+        Err(status) => cip::fail(buf, limit, service, status),
     }
 }

@@ -1,48 +1,23 @@
--- A search over records, one after the other: the rows from here on have what the search over all of them has.
+-- A search over records is the search over the rows that they mean, and what it finds is there.
 -- Assumes nothing.
-use mathlib.Core.Path.{◌≡◌, refl, ap, ◌∙◌}
+use mathlib.Core.Path.{◌≡◌, refl, sym, ap, ◌∙◌}
 use mathlib.Core.Bool.{Bool, true, false}
-use mathlib.Core.List.{List, []}
-use mathlib.Core.Option.{Option, none, some}
-use Prim.Native.Nat.{ℕ, ◌+◌, ◌<◌, ◌≤◌}
+use mathlib.Core.List.{List, [], ◌∷◌, map}
+use Rattle.std.specs.Prelude.{Option, None, Some}
+use Prim.Native.Nat.{ℕ, suc, ◌+◌, ◌<◌}
 use native.Mathlib.Omega.{arith}
-use lib.ListN.{length, drop}
+use lib.ListN.{length}
 use Rattle.laws.specs.Scan.{scan}
-use Rattle.laws.proofs.Scan.{scan_next, scan_found, scan-none}
+use Rattle.laws.proofs.Chain.{by_test}
 use Rattle.definition.specs.Tables.{Row}
 use Rattle.records.specs.declared.Tag.{Tag}
-use Rattle.records.specs.declared.Lookup.{Lookup}
-use Rattle.records.specs.Records.{row_of, no_tag, tag_at, row_at, rows_of, found_as, lookup_of}
-use Rattle.records.proofs.Lists.{rows-count, rows_at}
+use Rattle.records.specs.Records.{row_of, rows_of}
 
-module _ (p : Row → Bool) (tags : List Tag) where
-  abbrev pub Sought : Option ℕ
-  Sought = scan p some none 0 (rows_of tags)
+module _ (p : Row → Bool) where
+  scan-rows : (i : ℕ) (tags : List Tag) → scan (λ t. p (row_of t)) Some None i tags ≡ scan p Some None i (rows_of tags)
+  unfolding scan
+  scan-rows i [] = refl
+  scan-rows i (t ∷ tags) = by_test (p (row_of t)) (λ e. rw e refl) (λ e. rw e (scan-rows (suc i) tags))
 
-  -- no record before the i-th passes the test
-  abbrev pub Searching : ℕ → Type 0
-  Searching i = scan p some none i (drop i (rows_of tags)) ≡ Sought
-
-  pub seek_start : Searching 0
-  seek_start = refl
-
-  module _ (i : ℕ) (here : Searching i) where
-    module _ (inside : i < length tags) (t : Tag) (read : t ≡ tag_at tags i) (b : Bool) (tested : b ≡ p (row_of t)) where
-      in_rows : i < length (rows_of tags)
-      in_rows = omega (arith, inside, rows-count tags)
-
-      tested_row : b ≡ p (row_at (rows_of tags) i)
-      tested_row = tested ∙ ap (λ (x : Tag). p (row_of x)) read ∙ ap p (rows_at tags i)
-
-      pub seek_next : b ≡ false → Searching (i + 1)
-      seek_next h = scan_next p some none (row_of no_tag) i (rows_of tags) here in_rows tested_row h refl
-
-      pub seek_found : (r : Lookup) → b ≡ true → r ≡ found_as i t → r ≡ lookup_of tags Sought
-      seek_found r h e =
-          let s : some i ≡ Sought = scan_found p some none (row_of no_tag) i (rows_of tags) here in_rows tested_row h refl in
-          e ∙ ap (found_as i) read ∙ ap (lookup_of tags) s
-
-    pub seek_none : length tags ≤ i → (r : Lookup) → r ≡ lookup_of [] none → r ≡ lookup_of tags Sought
-    seek_none h r e =
-        let s : none ≡ Sought = scan-none p some none (row_of no_tag) i (rows_of tags) here (omega (arith, h, rows-count tags)) in
-        e ∙ ap (lookup_of tags) s
+  pub located : (tags : List Tag) (o : Option ℕ) → o ≡ scan (λ t. p (row_of t)) Some None 0 tags → o ≡ scan p Some None 0 (rows_of tags)
+  located tags o e = e ∙ scan-rows 0 tags

@@ -3,16 +3,17 @@
 -- Assumes nothing.
 use mathlib.Core.Path.{◌≡◌, ap, subst, ◌∙◌}
 use mathlib.Core.List.{List}
+use Rattle.std.specs.Prelude.{Result}
 use Prim.Native.Nat.{ℕ}
 use native.Mathlib.Omega.{arith}
 use lib.ListN.{length, take}
 use lib.Seq.{take_all}
 use Rattle.definition.specs.Tables.{Tables, Row}
 use Rattle.definition.specs.Entry.{entry, Entered}
-use Rattle.model.specs.Tables.{tables_of, flags_of}
+use Rattle.model.specs.Tables.{tables_from, flags_of}
 use Rattle.model.specs.declared.Flags.{Flags}
 use Rattle.logix.specs.Entering.{Enters}
-use Rattle.logix.specs.declared.entry.Outcome.{Outcome}
+use Rattle.logix.specs.declared.entry.Refusal.{Refusal}
 use Rattle.records.specs.Records.{rows_of, Packs}
 use Rattle.records.specs.declared.Tag.{Tag}
 use Rattle.records.proofs.Lists.{rows-count}
@@ -24,7 +25,7 @@ module _ (tags : List Tag) (rows : List Row) (n : ℕ) (packed : List Row) (pack
 
   module _ (structures members programs others : List Row) (names tag_names templates : List ℕ) where
     abbrev given : List Row → Tables
-    given ts = tables_of structures members programs ts others names tag_names templates
+    given ts = tables_from structures members programs ts others names tag_names templates
 
     -- so are the tables
     pub packed_tables : given (take n packed) ≡ given (rows_of tags)
@@ -39,6 +40,6 @@ module _ (tags : List Tag) (rows : List Row) (n : ℕ) (packed : List Row) (pack
       packed_entry = ap meant packed_all
 
       -- so what `message` promises over the packed rows, it promises over the tags
-      pub packed_message : (r : Outcome) (buffer' memory' : List ℕ) → Enters (meant (take n packed)) r buffer' memory'
+      pub packed_message : (r : Result ℕ Refusal) (buffer' memory' : List ℕ) → Enters (meant (take n packed)) r buffer' memory'
           → Enters (meant (rows_of tags)) r buffer' memory'
       packed_message r buffer' memory' = subst (λ (e : Entered). Enters e r buffer' memory') packed_entry

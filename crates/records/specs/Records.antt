@@ -1,10 +1,9 @@
 -- A tag's record as a row of the tag table, and the rows that a list of records means.
 use Rattle.std.specs.Prelude.{◌≡◌, List, [], ◌∷◌, map, ℕ, min, length, get_or, take, drop}
-use Rattle.std.proofs.Math.Option.{Option, none, some}
+use Rattle.std.specs.Prelude.{Option, None, Some}
 use Rattle.definition.specs.Tables.{Row, field, tag_scope, tag_id, tag_type, tag_elements, tag_access, is_alias, tag_offset}
-use Rattle.model.specs.Rows.{found_of}
 use Rattle.records.specs.declared.Tag.{Tag}
-use Rattle.records.specs.declared.Lookup.{Lookup}
+use Rattle.records.specs.declared.Found.{Found}
 
 -- twelve words, in the order of the table
 abbrev pub row_of : Tag → Row
@@ -39,14 +38,10 @@ row_at rows i = get_or rows i (row_of no_tag)
 abbrev pub rows_of : List Tag → List Row
 rows_of ts = map row_of ts
 
--- the record at a place
-abbrev pub found_as : ℕ → Tag → Lookup
-found_as i tag = record { at = found_of (some i); tag = tag }
-
--- the place and the record whose row a search found
-abbrev pub lookup_of : List Tag → Option ℕ → Lookup
-lookup_of tags none = record { at = found_of none; tag = no_tag }
-lookup_of tags (some i) = found_as i (tag_at tags i)
+-- the record whose row a search found, with its place
+abbrev pub lookup_of : List Tag → Option ℕ → Option Found
+lookup_of tags None = None
+lookup_of tags (Some i) = Some (record { at = i; tag = tag_at tags i })
 
 -- n records were packed into rows: as many as there are, or as fit; the rows after them are as they were
 pub record Packs (tags : List Tag) (rows : List Row) (n : ℕ) (packed : List Row) : Type 0 where

@@ -1,35 +1,40 @@
 -- A run of elements by its last three values against three lengths is the definition's list of indexes against its lengths.
 -- Assumes nothing.
 use mathlib.Core.Path.{◌≡◌, refl, sym, ◌∙◌}
-use mathlib.Core.Logic.{◌≢◌}
+use mathlib.Core.Logic.{◌≢◌, ◌⊎◌, inl, inr}
 use mathlib.Core.Bool.{Bool, true, false}
 use mathlib.Core.List.{List, [], ◌∷◌}
 use Prim.Native.Nat.{ℕ, ◌+◌, ◌*◌, ◌<◌, ◌≤◌}
-use native.Mathlib.Nat.{zero-add, mul-le-mul_right, mul-le-mul_left}
+use native.Mathlib.Nat.{mul-le-mul_right, mul-le-mul_left}
 use native.Mathlib.Omega.{arith}
 use lib.Dec.{ltb, eqb}
 use lib.ListN.{length}
-use borrow.Author.Tests.{eqb-true, ne_eqb, eq-eqb}
-use Rattle.laws.specs.Pick.{both}
+use borrow.Author.Tests.{ne_eqb, eq-eqb}
+use Rattle.laws.specs.Pick.{pick, both, is_empty}
 use Rattle.laws.proofs.Chain.{by_test}
+use Rattle.laws.proofs.Tests.{not_empty}
 use Rattle.definition.specs.Reply.{path_error, path_unknown}
-use Rattle.definition.specs.Tables.{Row}
+use Rattle.definition.specs.Tables.{Tables, Row}
 use Rattle.definition.specs.Types.{size_in}
 use Rattle.definition.specs.Valid.{product}
-use Rattle.definition.specs.Resolve.{Resolved, found, turned, all_below, row_major, elements_from, index}
+use Rattle.definition.specs.Resolve.{Target, Resolved, found, turned, all_below, row_major, elements_from, index}
 use Rattle.definition.proofs.Inside.{position_below}
 use Rattle.resolve.specs.declared.places.Place.{Place}
-use Rattle.resolve.specs.Places.{length1, length2, length3, open_lengths, place_of, on_walk, only_structures}
-use Rattle.resolve.specs.Runs.{Values, lead, no_values, dims_of, inside_of, position_of, index_of, Bounded}
+use Rattle.resolve.specs.declared.elements.Run.{Run}
+use Rattle.resolve.specs.Places.{first_of, second_of, third_of, open_lengths, place_of}
+use Rattle.resolve.specs.Runs.{last_three, Holds, inside_of, position_of, Bounded}
 
 both_end : (b : Bool) → both b true ≡ b
 both_end true = refl
 both_end false = refl
 
-counted : (es : List ℕ) (v : Values) → (lead v es).count ≡ v.count + length es
-unfolding lead
-counted [] v = omega arith
-counted (e ∷ es) v = counted es _ ∙ omega arith
+pick_same : {A : Type 0} (t : Bool) (a : A) → pick t a a ≡ a
+pick_same true a = refl
+pick_same false a = refl
+
+no_element : (ns : List ℕ) → length ns ≡ 0 → is_empty ns ≡ true
+no_element [] h = refl
+no_element (n ∷ ns) h = absurd (omega arith)
 
 -- ---- one, two and three indexes
 
@@ -61,148 +66,128 @@ row_three a b d n m k = let z : 0 * n + a ≡ a = omega arith in rw z
 
 module _ (ns : List ℕ) where
   abbrev Agree : List ℕ → Type 0
-  Agree es = (inside_of ns (lead no_values es) ≡ all_below es (open_lengths ns)) × (position_of ns (lead no_values es) ≡ row_major 0 es (open_lengths ns))
+  Agree es =
+      (inside_of ns (last_three 0 0 0 es) ≡ all_below es (open_lengths ns)) × (position_of ns (last_three 0 0 0 es) ≡ row_major 0 es (open_lengths ns))
 
-  agree_one : eqb (length1 ns) 0 ≡ false → eqb (length2 ns) 0 ≡ true → (es : List ℕ) → length es ≡ 1 → Agree es
-  unfolding lead
+  agree_one : eqb (first_of ns) 0 ≡ false → eqb (second_of ns) 0 ≡ true → (es : List ℕ) → length es ≡ 1 → Agree es
+  unfolding last_three
   agree_one t u [] h = absurd (omega arith)
-  agree_one t u (a ∷ []) h = rw (t, u) (sym (below_one a (length1 ns)), sym (row_one a (length1 ns)))
+  agree_one t u (a ∷ []) h = rw (t, u) (sym (below_one a (first_of ns)), sym (row_one a (first_of ns)))
   agree_one t u (a ∷ (b ∷ es)) h = absurd (omega arith)
 
-  agree_two : eqb (length1 ns) 0 ≡ false → eqb (length2 ns) 0 ≡ false → eqb (length3 ns) 0 ≡ true → (es : List ℕ) → length es ≡ 2 → Agree es
-  unfolding lead
+  agree_two : eqb (first_of ns) 0 ≡ false → eqb (second_of ns) 0 ≡ false → eqb (third_of ns) 0 ≡ true → (es : List ℕ) → length es ≡ 2
+      → Agree es
+  unfolding last_three
   agree_two t u w [] h = absurd (omega arith)
   agree_two t u w (a ∷ []) h = absurd (omega arith)
-  agree_two t u w (a ∷ (b ∷ [])) h = rw (t, u, w) (sym (below_two a b (length1 ns) (length2 ns)), sym (row_two a b (length1 ns) (length2 ns)))
+  agree_two t u w (a ∷ (b ∷ [])) h = rw (t, u, w) (sym (below_two a b (first_of ns) (second_of ns)), sym (row_two a b (first_of ns) (second_of ns)))
   agree_two t u w (a ∷ (b ∷ (d ∷ es))) h = absurd (omega arith)
 
-  agree_three : eqb (length1 ns) 0 ≡ false → eqb (length2 ns) 0 ≡ false → eqb (length3 ns) 0 ≡ false → (es : List ℕ) → length es ≡ 3 → Agree es
-  unfolding lead
+  agree_three : eqb (first_of ns) 0 ≡ false → eqb (second_of ns) 0 ≡ false → eqb (third_of ns) 0 ≡ false → (es : List ℕ) → length es ≡ 3
+      → Agree es
+  unfolding last_three
   agree_three t u w [] h = absurd (omega arith)
   agree_three t u w (a ∷ []) h = absurd (omega arith)
   agree_three t u w (a ∷ (b ∷ [])) h = absurd (omega arith)
   agree_three t u w (a ∷ (b ∷ (d ∷ []))) h =
-      rw (t, u, w) (sym (below_three a b d (length1 ns) (length2 ns) (length3 ns)), sym (row_three a b d (length1 ns) (length2 ns) (length3 ns)))
+      rw (t, u, w)
+      (sym (below_three a b d (first_of ns) (second_of ns) (third_of ns)), sym (row_three a b d (first_of ns) (second_of ns) (third_of ns)))
   agree_three t u w (a ∷ (b ∷ (d ∷ (x ∷ es)))) h = absurd (omega arith)
 
-  agrees : eqb (length1 ns) 0 ≡ false → (es : List ℕ) → length es ≡ dims_of ns → Agree es
+  agrees : eqb (first_of ns) 0 ≡ false → (es : List ℕ) → length es ≡ length (open_lengths ns) → Agree es
   agrees t es h =
-      by_test (eqb (length2 ns) 0) (λ u. agree_one t u es (rw (t, u) at h))
-      (λ u. by_test (eqb (length3 ns) 0) (λ w. agree_two t u w es (rw (t, u, w) at h)) (λ w. agree_three t u w es (rw (t, u, w) at h)))
+      by_test (eqb (second_of ns) 0) (λ u. agree_one t u es (rw (t, u) at h))
+      (λ u. by_test (eqb (third_of ns) 0) (λ w. agree_two t u w es (rw (t, u, w) at h)) (λ w. agree_three t u w es (rw (t, u, w) at h)))
 
-  dims_are : length (open_lengths ns) ≡ dims_of ns
-  dims_are =
-      by_test (eqb (length1 ns) 0) (λ t. rw t)
-      (λ t. by_test (eqb (length2 ns) 0) (λ u. rw (t, u)) (λ u. by_test (eqb (length3 ns) 0) (λ w. rw (t, u, w)) (λ w. rw (t, u, w))))
+  first_some : length (open_lengths ns) ≢ 0 → eqb (first_of ns) 0 ≡ false
+  first_some h = by_test (eqb (first_of ns) 0) (λ t. absurd (h (rw t))) (λ t. t)
 
-  module _ (v : Values) (some-length : length1 ns ≢ 0) (b : Bool) (tested : b ≡ inside_of ns v) (on : b ≡ true) where
-    below : inside_of ns v ≡ true
-    below = sym tested ∙ on
-
-    position_inside : position_of ns v < product (open_lengths ns)
+  module _ (es : List ℕ) (t : eqb (first_of ns) 0 ≡ false) (below : inside_of ns es ≡ true) where
+    position_inside : position_of ns es < product (open_lengths ns)
     position_inside =
-        let t = ne_eqb (length1 ns) 0 some-length in
-        by_test (eqb (length2 ns) 0)
+        by_test (eqb (second_of ns) 0)
         (λ u. rw (t, u) (omega (
           arith,
-          row_one v.third (length1 ns),
-          position_below 0 (v.third ∷ []) (length1 ns ∷ []) refl (below_one v.third (length1 ns) ∙ (rw u at below)),
+          row_one (third_of es) (first_of ns),
+          position_below 0 (third_of es ∷ []) (first_of ns ∷ []) refl (below_one (third_of es) (first_of ns) ∙ (rw u at below)),
         )))
-        (λ u. by_test (eqb (length3 ns) 0)
+        (λ u. by_test (eqb (third_of ns) 0)
         (λ w. rw (t, u, w) (omega (
           arith,
-          row_two v.second v.third (length1 ns) (length2 ns),
-          position_below 0 (v.second ∷ v.third ∷ []) (length1 ns ∷ length2 ns ∷ []) refl
-              (below_two v.second v.third (length1 ns) (length2 ns) ∙ (rw (u, w) at below)),
+          row_two (second_of es) (third_of es) (first_of ns) (second_of ns),
+          position_below 0 (second_of es ∷ third_of es ∷ []) (first_of ns ∷ second_of ns ∷ []) refl
+              (below_two (second_of es) (third_of es) (first_of ns) (second_of ns) ∙ (rw (u, w) at below)),
         )))
         (λ w. rw (t, u, w) (omega (
           arith,
-          row_three v.first v.second v.third (length1 ns) (length2 ns) (length3 ns),
-          position_below 0 (v.first ∷ v.second ∷ v.third ∷ []) (length1 ns ∷ length2 ns ∷ length3 ns ∷ []) refl
-              (below_three v.first v.second v.third (length1 ns) (length2 ns) (length3 ns) ∙ (rw (u, w) at below)),
+          row_three (first_of es) (second_of es) (third_of es) (first_of ns) (second_of ns) (third_of ns),
+          position_below 0 (first_of es ∷ second_of es ∷ third_of es ∷ []) (first_of ns ∷ second_of ns ∷ third_of ns ∷ []) refl
+              (below_three (first_of es) (second_of es) (third_of es) (first_of ns) (second_of ns) (third_of ns) ∙ (rw (u, w) at below)),
         ))))
-
-pub index_is : (g : Place) (structures members : List Row) (names es : List ℕ)
-    → index_of structures g (lead no_values es) ≡ index (on_walk structures members names) es (place_of g)
-unfolding index_of index elements_from
-index_is g structures members names es =
-    let ns = g.lengths in
-    by_test (eqb (length1 ns) 0) (λ t. rw t)
-    (λ t.
-    let n : (lead no_values es).count ≡ length es = counted es no_values ∙ zero-add (length es) in
-    by_test (eqb (length es) (dims_of ns))
-    (λ u. let a = agrees ns t es (eqb-true (length es) (dims_of ns) u) in rw (dims_are ns, n, u, a.0, a.1, t))
-    (λ u. rw (dims_are ns, n, u, t)))
 
 -- ---- sums and products stay small
 
-module _ (structures : List Row) (g : Place) (bounded : Bounded structures g) (v : Values) (some-length : length1 g.lengths ≢ 0)
-    (b : Bool) (tested : b ≡ inside_of g.lengths v) (on : b ≡ true) where
-  inside : position_of g.lengths v < product (open_lengths g.lengths)
-  inside = position_inside g.lengths v some-length b tested on
+module _ (structures : List Row) (g : Place) (bounded : Bounded structures g) (es : List ℕ) (n : ℕ)
+    (dims : n ≡ length (open_lengths g.lengths)) (some : n ≢ 0)
+    (b : Bool) (tests : b ≡ inside_of g.lengths es) (on : b ≡ true) where
+  inside : position_of g.lengths es < product (open_lengths g.lengths)
+  inside = position_inside g.lengths es (first_some g.lengths (λ e. some (dims ∙ e))) (sym tests ∙ on)
 
-  pub position_small : position_of g.lengths v ≤ 65536
+  pub position_small : position_of g.lengths es ≤ 65536
   position_small =
       let size = size_in structures g.ty in
       let few : g.count * 1 ≤ g.count * size = mul-le-mul_left g.count bounded.some_bytes in
       omega (arith, inside, bounded.reach, bounded.within, few)
 
-  module _ (p : ℕ) (is : p ≡ position_of g.lengths v) where
+  module _ (p : ℕ) (is : p ≡ position_of g.lengths es) where
     pub position_counted : p ≤ g.count
     position_counted = omega (arith, inside, bounded.reach, is)
 
     pub position_within : g.start + p * size_in structures g.ty ≤ 65536
     position_within = omega (arith, bounded.within, mul-le-mul_right (size_in structures g.ty) position_counted)
 
--- ---- a position, two or three indexes by one
+-- ---- the answers, each from what the code knows there: n is the number of open lengths, b whether each index is below its length
 
-module _ (ns : List ℕ) (v : Values) (small : position_of ns v ≤ 65536) (second-length : length2 ns ≢ 0) where
-  pub row-second : (w : ℕ) → length3 ns ≡ 0 → w ≡ v.second → w * length2 ns + v.third ≤ 65536
-  row-second w z e = rw (e) (rw (ne_eqb (length2 ns) 0 second-length, eq-eqb (length3 ns) 0 z) at small)
+module _ (t : Tables) (g : Place) (run : Run) (n : ℕ) (dims : n ≡ length (open_lengths g.lengths)) where
+  abbrev ns : List ℕ
+  ns = open_lengths g.lengths
 
-  module _ (third-length : length3 ns ≢ 0) where
-    all_three : (v.first * length2 ns + v.second) * length3 ns + v.third ≤ 65536
-    all_three = rw (ne_eqb (length2 ns) 0 second-length, ne_eqb (length3 ns) 0 third-length) at small
+  abbrev Indexed : Resolved → Type 0
+  Indexed d = (es : List ℕ) → Holds es run → d ≡ index t es (place_of g)
 
-    pub row_inner : (w : ℕ) → w ≡ v.first → w * length2 ns + v.second ≤ 65536
-    row_inner w e =
-        let p = v.first * length2 ns + v.second in
-        let one : 1 ≤ length3 ns = omega (arith, third-length) in
-        let k : p * 1 ≤ p * length3 ns = mul-le-mul_left p one in
-        rw e (omega (arith, k, all_three))
+  index_closed : n ≡ 0 → Indexed (turned path_error)
+  unfolding index
+  index_closed h es held = rw (no_element ns (sym dims ∙ h))
 
-    pub row_outer : (w p : ℕ) → w ≡ v.first → p ≡ w * length2 ns + v.second → p * length3 ns + v.third ≤ 65536
-    row_outer w p e f = rw (f, e) all_three
+  index_number : run.count ≢ n → Indexed (turned path_error)
+  unfolding index
+  index_number h es held = rw (ne_eqb (length es) (length ns) (λ e. h (held.count_is ∙ e ∙ sym dims)), pick_same)
 
-    pub row-all : (w p q : ℕ) → w ≡ v.first → p ≡ w * length2 ns + v.second → q ≡ p * length3 ns + v.third → q ≡ position_of ns v
-    row-all w p q e f h = rw (ne_eqb (length2 ns) 0 second-length, ne_eqb (length3 ns) 0 third-length, h, f, e)
+  pub index_refused : (n ≡ 0) ⊎ ((n ≢ 0) × (run.count ≢ n)) → Indexed (turned path_error)
+  index_refused (inl h) = index_closed h
+  index_refused (inr h) = index_number h.1
 
-  pub row-both : (w q : ℕ) → length3 ns ≡ 0 → w ≡ v.second → q ≡ w * length2 ns + v.third → q ≡ position_of ns v
-  row-both w q z e f = rw (ne_eqb (length2 ns) 0 second-length, eq-eqb (length3 ns) 0 z, f, e)
+  module _ (some : n ≢ 0) (same : run.count ≡ n) (b : Bool) (tests : b ≡ inside_of g.lengths run.last) where
+    some_open : length ns ≢ 0
+    some_open e = some (dims ∙ e)
 
-pub ruleset row_laws = (row-second, row_inner, row_outer, row-all, row-both)
+    tested : (es : List ℕ) → Holds es run
+        → (inside_of g.lengths run.last ≡ all_below es ns) × (position_of g.lengths run.last ≡ row_major 0 es ns)
+    tested es held = rw held.last_are (agrees g.lengths (first_some g.lengths some_open) es (sym held.count_is ∙ same ∙ dims))
 
--- ---- the answers, each from what the code knows there
+    opened : is_empty ns ≡ false
+    opened = not_empty ns (omega (arith, some_open))
 
-module _ (structures : List Row) (g : Place) (v : Values) (m : Resolved) where
-  pub index_closed : length1 g.lengths ≡ 0 → m ≡ turned path_error → m ≡ index_of structures g v
-  unfolding index_of
-  index_closed z e = rw (eq-eqb (length1 g.lengths) 0 z) e
+    counts : (es : List ℕ) → Holds es run → eqb (length es) (length ns) ≡ true
+    counts es held = eq-eqb (length es) (length ns) (sym held.count_is ∙ same ∙ dims)
 
-  module _ (some-length : length1 g.lengths ≢ 0) (k : ℕ) (counts : k ≡ dims_of g.lengths) where
-    pub index_number : v.count ≢ k → m ≡ turned path_error → m ≡ index_of structures g v
-    unfolding index_of
-    index_number h e = rw (ne_eqb v.count (dims_of g.lengths) (λ f. h (f ∙ sym counts)), ne_eqb (length1 g.lengths) 0 some-length) e
+    pub index_outside : b ≡ false → Indexed (turned path_unknown)
+    unfolding index
+    index_outside off es held = rw (opened, counts es held, ← (tested es held).0, ← tests, off)
 
-    module _ (same : v.count ≡ k) (b : Bool) (tested : b ≡ inside_of g.lengths v) where
-      pub index_outside : b ≡ false → m ≡ turned path_unknown → m ≡ index_of structures g v
-      unfolding index_of
-      index_outside off e = rw (eq-eqb v.count (dims_of g.lengths) (same ∙ counts), ← tested, off, ne_eqb (length1 g.lengths) 0 some-length) e
+    pub index-inside : b ≡ true → (p : ℕ) → p ≡ position_of g.lengths run.last → (to : Target)
+        → to ≡ elements_from t (place_of g) p → Indexed (found to)
+    unfolding index
+    index-inside on p e to f es held = rw (opened, counts es held, ← (tested es held).0, ← tests, on, ← (tested es held).1, ← e, f)
 
-      pub index-inside : b ≡ true → (p : ℕ) → p ≡ position_of g.lengths v → (to : Place) → m ≡ found (place_of to)
-          → place_of to ≡ elements_from (only_structures structures) (place_of g) p → m ≡ index_of structures g v
-      unfolding index_of
-      index-inside on p e to q f =
-          rw (eq-eqb v.count (dims_of g.lengths) (same ∙ counts), ← tested, on, ← e, ← f, ne_eqb (length1 g.lengths) 0 some-length) q
-
-pub ruleset index_laws = (index_closed, index_number, index_outside, index-inside)
+pub ruleset index_laws = (index_refused, index_outside, index-inside)

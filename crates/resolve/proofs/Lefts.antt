@@ -1,9 +1,9 @@
 -- The segments of a path that decodes from a position on, and the run of elements that they begin with.
 -- Assumes nothing.
-use mathlib.Core.Path.{◌≡◌, refl, sym, ap, subst, ◌∙◌}
+use mathlib.Core.Path.{◌≡◌, refl, sym, ap, ◌∙◌}
 use mathlib.Core.Bool.{true}
 use mathlib.Core.List.{List, [], ◌∷◌}
-use mathlib.Core.Option.{Option, none, some}
+use Rattle.std.specs.Prelude.{Option, None, Some}
 use Prim.Native.Nat.{ℕ, ◌+◌, ◌<◌, ◌≤◌}
 use native.Mathlib.Omega.{arith}
 use lib.Dec.{ltb}
@@ -12,34 +12,30 @@ use borrow.Author.Tests.{ltb-true, ltb-false}
 use Rattle.laws.specs.Pick.{is_some}
 use Rattle.laws.specs.Items.{before}
 use Rattle.laws.proofs.Chain.{by_test, clash}
-use Rattle.definition.specs.Bytes.{part}
-use Rattle.definition.specs.Segment.{Segment as Defined, port, class, instance, element, attribute, symbol, step, cut, segment_at, segments_from, segments, element_of}
+use Rattle.definition.specs.Segment.{Segment, port, class, instance, element, attribute, symbol, Step, step, cut, segment_at, segments_from, element_of}
 use Rattle.definition.specs.Resolve.{indexes, join_run, moves}
-use Rattle.path.specs.Paths.{step_of, NameInside, Decoded}
-use Rattle.path.specs.declared.Segment.{Segment}
-use Rattle.path.specs.declared.Segment.TheVariants.{Port, Class, Instance, Element, Attribute, Symbol, Invalid}
 use Rattle.path.proofs.Forward.{step_inside}
 use Rattle.path.proofs.Segments.{segments_end, segments-cut, segments_step, segments_rest}
-use Rattle.resolve.specs.declared.elements.Element.{Element as Found}
-use Rattle.resolve.specs.declared.elements.Element.TheVariants.{Of, Other}
 use Rattle.resolve.specs.Paths.{or_none, left, leading, behind}
-use Rattle.resolve.specs.Runs.{element_in, values, lead, no_values, Ran}
+use Rattle.resolve.specs.Places.{first_of, second_of, third_of}
+use Rattle.resolve.specs.Runs.{element_in, last_three, Ran}
+use Rattle.resolve.specs.declared.elements.Run.{Run}
 
-or_before : (s : Defined) (m : Option (List Defined)) → is_some m ≡ true → or_none (before s m) ≡ s ∷ or_none m
-or_before s none e = clash (cc e)
-or_before s (some l) e = refl
+or_before : (s : Segment) (m : Option (List Segment)) → is_some m ≡ true → or_none (before s m) ≡ s ∷ or_none m
+or_before s None e = clash (cc e)
+or_before s (Some l) e = refl
 
-pub some_left : (path : List ℕ) (at : ℕ) → is_some (segments_from path at) ≡ true → segments_from path at ≡ some (left path at)
+pub some_left : (path : List ℕ) (at : ℕ) → is_some (segments_from path at) ≡ true → segments_from path at ≡ Some (left path at)
 unfolding left
 some_left path at = some_or (segments_from path at)
   where
-    some_or : (m : Option (List Defined)) → is_some m ≡ true → m ≡ some (or_none m)
-    some_or none e = clash (cc e)
-    some_or (some l) e = refl
+    some_or : (m : Option (List Segment)) → is_some m ≡ true → m ≡ Some (or_none m)
+    some_or None e = clash (cc e)
+    some_or (Some l) e = refl
 
-pub left_whole : (path : List ℕ) (l : List Defined) → segments path ≡ some l → left path 0 ≡ l
+pub left_whole : (path : List ℕ) (at : ℕ) (l : List Segment) → segments_from path at ≡ Some l → left path at ≡ l
 unfolding left
-left_whole path l e = ap or_none e
+left_whole path at l e = ap or_none e
 
 module _ (path : List ℕ) (at : ℕ) where
   pub left_end : length path ≤ at → left path at ≡ []
@@ -47,7 +43,7 @@ module _ (path : List ℕ) (at : ℕ) where
   left_end h = rw (segments_end path at h)
 
   module _ (decodes : is_some (segments_from path at) ≡ true) where
-    pub left_step : (s : Defined) (next : ℕ) → segment_at path at ≡ step s next → left path at ≡ s ∷ left path next
+    pub left_step : (s : Segment) (next : ℕ) → segment_at path at ≡ step s next → left path at ≡ s ∷ left path next
     unfolding left
     left_step s next e =
         ap or_none (segments_step path at s next e) ∙ or_before s (segments_from path next) (segments_rest path at s next e decodes)
@@ -57,18 +53,9 @@ module _ (path : List ℕ) (at : ℕ) where
         by_test (ltb at (length path)) (λ t. clash (cc (rw (segments-cut path at (ltb-true at (length path) t) e) at decodes)))
         (λ t. left_end (ltb-false at (length path) t))
 
--- r is what the decoder found
-module _ (path : List ℕ) (at : ℕ) (r : Segment) (found : Decoded path at r) where
-  -- a symbol's name stands in the path
-  pub name_at_lem : (start n next : ℕ) → r ≡ Symbol start n next → start + n ≤ length path
-  name_at_lem start n next g = let i = subst (NameInside path at) g found.name_inside in i.1
-
-  pub found_at : (s : Segment) → r ≡ s → segment_at path at ≡ step_of path s
-  found_at s g = sym found.is ∙ ap (step_of path) g
-
 -- ---- a run of elements is one move
 
-pub run-moves : (e : ℕ) (l : List Defined) → join_run e (moves l) ≡ indexes (e ∷ leading l) ∷ moves (behind l)
+pub run-moves : (e : ℕ) (l : List Segment) → join_run e (moves l) ≡ indexes (e ∷ leading l) ∷ moves (behind l)
 unfolding moves leading behind
 run-moves e [] = refl
 run-moves e (port ∷ l) = refl
@@ -78,7 +65,7 @@ run-moves e (element x ∷ l) = rw (run-moves x l)
 run-moves e (attribute a ∷ l) = refl
 run-moves e (symbol s ∷ l) = refl
 
-pub behind-shorter : (l : List Defined) → length (behind l) ≤ length l
+pub behind-shorter : (l : List Segment) → length (behind l) ≤ length l
 unfolding behind
 behind-shorter [] = omega arith
 behind-shorter (port ∷ l) = omega arith
@@ -90,74 +77,89 @@ behind-shorter (symbol s ∷ l) = omega arith
 
 -- ---- the loop over a run
 
-element_is : (r : Segment) (x next : ℕ) → element_in r ≡ Of x next → r ≡ Element x next
-element_is (Port n) x next e = clash (cc e)
-element_is (Class y n) x next e = clash (cc e)
-element_is (Instance y n) x next e = clash (cc e)
-element_is (Element y n) x next e = cc e
-element_is (Attribute y n) x next e = clash (cc e)
-element_is (Symbol y m n) x next e = clash (cc e)
-element_is Invalid x next e = clash (cc e)
+element_is : (x : Step) (v n : ℕ) → element_in x ≡ Some (v, n) → x ≡ step (element v) n
+element_is (step port k) v n z = clash (cc z)
+element_is (step (class x) k) v n z = clash (cc z)
+element_is (step (instance x) k) v n z = clash (cc z)
+element_is (step (element x) k) v n z = let p : (x, k) ≡ (v, n) = cc z in ap (λ (q : ℕ × ℕ). step (element q.0) q.1) p
+element_is (step (attribute x) k) v n z = clash (cc z)
+element_is (step (symbol name) k) v n z = clash (cc z)
+element_is cut v n z = clash (cc z)
 
 -- where a loop over a run is: the run from here on completes the whole one
-pub record Running (path : List ℕ) (from : ℕ) (count first second third at : ℕ) : Type 0 where
-  pub decodes : is_some (segments_from path at) ≡ true
-  pub few : count ≤ at
-  pub values_are : lead (values count first second third) (leading (left path at)) ≡ lead no_values (leading (left path from))
-  pub rest_is : behind (left path at) ≡ behind (left path from)
+pub record Running (path : List ℕ) (from : ℕ) (run : Run) : Type 0 where
+  pub decodes : is_some (segments_from path run.next) ≡ true
+  pub few : run.count ≤ run.next
+  pub counted : run.count + length (leading (left path run.next)) ≡ length (leading (left path from))
+  pub lasting : last_three (first_of run.last) (second_of run.last) (third_of run.last) (leading (left path run.next))
+      ≡ last_three 0 0 0 (leading (left path from))
+  pub rest_is : behind (left path run.next) ≡ behind (left path from)
+  pub three : length run.last ≡ 3
 
-pub run_start : (path : List ℕ) (from : ℕ) → is_some (segments_from path from) ≡ true → Running path from 0 0 0 0 from
-run_start path from d = record { decodes = d; few = omega arith; values_are = refl; rest_is = refl }
+pub three_parts : (ns : List ℕ) → length ns ≡ 3 → first_of ns ∷ second_of ns ∷ third_of ns ∷ [] ≡ ns
+three_parts [] h = absurd (omega arith)
+three_parts (a ∷ []) h = absurd (omega arith)
+three_parts (a ∷ (b ∷ [])) h = absurd (omega arith)
+three_parts (a ∷ (b ∷ (d ∷ []))) h = refl
+three_parts (a ∷ (b ∷ (d ∷ (e ∷ ns)))) h = absurd (omega arith)
 
-module _ (path : List ℕ) (from count first second third at : ℕ) (here : Running path from count first second third at) (r : Segment)
-    (found : Decoded path at r) (q : Found) (is : q ≡ element_in r) where
-  module _ (x next : ℕ) (more : q ≡ Of x next) where
-    at_element : segment_at path at ≡ step (element x) next
-    at_element = found_at path at r found (Element x next) (element_is r x next (sym is ∙ more))
+pub run_start : (path : List ℕ) (from : ℕ) → is_some (segments_from path from) ≡ true
+    → Running path from (record { count = 0; last = 0 ∷ 0 ∷ 0 ∷ []; next = from })
+run_start path from d = record { decodes = d; few = omega arith; counted = omega arith; lasting = refl; rest_is = refl; three = refl }
 
-    run_inside : (at < next) × (next ≤ length path)
-    run_inside = step_inside path at (element x) next at_element
+module _ (path : List ℕ) (from : ℕ) (run : Run) (here : Running path from run) where
+  module _ (x next : ℕ) (more : Some (x, next) ≡ element_in (segment_at path run.next)) where
+    at_element : segment_at path run.next ≡ step (element x) next
+    at_element = element_is (segment_at path run.next) x next (sym more)
 
-    pub run_fits : count + 1 ≤ length path
+    run_inside : (run.next < next) × (next ≤ length path)
+    run_inside = step_inside path run.next (element x) next at_element
+
+    pub run_fits : run.count + 1 ≤ length path
     run_fits = omega (arith, here.few, run_inside.0, run_inside.1)
 
-    pub run_more : Running path from (count + 1) second third x next
-    unfolding lead leading behind
+    pub run_more : Running path from (record { count = run.count + 1; last = second_of run.last ∷ third_of run.last ∷ x ∷ []; next = next })
+    unfolding last_three leading behind
     run_more =
-        let l = left_step path at here.decodes (element x) next at_element in
+        let l = left_step path run.next here.decodes (element x) next at_element in
         record {
-          decodes = segments_rest path at (element x) next at_element here.decodes;
+          decodes = segments_rest path run.next (element x) next at_element here.decodes;
           few = omega (arith, here.few, run_inside.0);
-          values_are = rw l at here.values_are;
+          counted = let n = rw l at here.counted in omega (arith, n);
+          lasting = rw l at here.lasting;
           rest_is = rw l at here.rest_is;
+          three = refl;
         }
 
-    pub run_less : length (left path next) < length (left path at)
-    run_less = rw (left_step path at here.decodes (element x) next at_element) (omega arith)
+    pub run_less : length (left path next) < length (left path run.next)
+    run_less = rw (left_step path run.next here.decodes (element x) next at_element) (omega arith)
 
-  stopped : (s : Defined) (next : ℕ) → element_of s ≡ none → segment_at path at ≡ step s next
-      → (leading (left path at) ≡ []) × (behind (left path at) ≡ left path at)
+  abbrev Stops : Type 0
+  Stops = (leading (left path run.next) ≡ []) × (behind (left path run.next) ≡ left path run.next)
+
+  stopped : (s : Segment) (next : ℕ) → element_of s ≡ None → segment_at path run.next ≡ step s next → Stops
   unfolding leading behind
-  stopped s next n e = let l = left_step path at here.decodes s next e in (rw (l, n), rw (l, n))
+  stopped s next n e = let l = left_step path run.next here.decodes s next e in (rw (l, n), rw (l, n))
 
-  stop : (s : Segment) → r ≡ s → element_in s ≡ Other → (leading (left path at) ≡ []) × (behind (left path at) ≡ left path at)
+  stop : (x : Step) → segment_at path run.next ≡ x → element_in x ≡ None → Stops
   unfolding leading behind
-  stop (Port n) g e = stopped port n refl (found_at path at r found _ g)
-  stop (Class y n) g e = stopped (class y) n refl (found_at path at r found _ g)
-  stop (Instance y n) g e = stopped (instance y) n refl (found_at path at r found _ g)
-  stop (Element y n) g e = clash (cc e)
-  stop (Attribute y n) g e = stopped (attribute y) n refl (found_at path at r found _ g)
-  stop (Symbol y m n) g e = stopped (symbol (part path y m)) n refl (found_at path at r found _ g)
-  stop Invalid g e = let l = left_cut path at here.decodes (found_at path at r found _ g) in (rw l, rw l)
+  stop (step port n) g e = stopped port n refl g
+  stop (step (class y) n) g e = stopped (class y) n refl g
+  stop (step (instance y) n) g e = stopped (instance y) n refl g
+  stop (step (element y) n) g e = clash (cc e)
+  stop (step (attribute y) n) g e = stopped (attribute y) n refl g
+  stop (step (symbol name) n) g e = stopped (symbol name) n refl g
+  stop cut g e = let l = left_cut path run.next here.decodes g in (rw l, rw l)
 
-  pub run_stop : q ≡ Other → Ran path from (record { count = count; first = first; second = second; third = third; next = at })
-  unfolding lead
+  pub run_stop : None ≡ element_in (segment_at path run.next) → Ran path from run
+  unfolding last_three
   run_stop e =
-      let s = stop r refl (sym is ∙ e) in
+      let s = stop (segment_at path run.next) refl (sym e) in
       record {
-        values_are = rw s.0 at here.values_are;
+        values_are = record {
+          count_is = let n = rw s.0 at here.counted in omega (arith, n);
+          last_are = sym (three_parts run.last here.three) ∙ rw s.0 at here.lasting;
+        };
         rest_is = sym s.1 ∙ here.rest_is;
         decodes = here.decodes;
       }
-
-pub ruleset runs = (run_start, run_fits, run_more, run_less, run_stop)

@@ -1,7 +1,6 @@
 pub mod Places
 pub mod Paths
 pub mod Runs
-pub mod Members
 pub mod Starts
 pub mod Steps
 pub mod Answers

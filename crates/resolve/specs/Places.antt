@@ -1,29 +1,29 @@
 -- A place and what a move comes to, in the definition's terms.
-use Rattle.std.specs.Prelude.{List, [], ◌∷◌, ℕ, get_or}
-use Rattle.definition.specs.Tables.{Tables, Row, nonzero}
-use Rattle.definition.specs.Resolve.{Target, Resolved, found, turned}
+use Rattle.std.specs.Prelude.{◌≡◌, List, [], ◌∷◌, ℕ, get_or, Result, Ok, Err}
+use Rattle.definition.specs.Tables.{Row, nonzero, no_bit, tag_offset, tag_type, tag_elements, tag_access}
+use Rattle.definition.specs.Types.{size_in}
+use Rattle.definition.specs.Resolve.{Target as Defined, Resolved, found, turned, index_lengths}
 use Rattle.cip.specs.Statuses.{status_of}
-use Rattle.model.specs.Tables.{tables_of}
+use Rattle.cip.specs.declared.Status.{Status}
+use Rattle.model.specs.Tables.{target_of}
+use Rattle.model.specs.declared.Target.{Target}
 use Rattle.resolve.specs.declared.places.Place.{Place}
-use Rattle.resolve.specs.declared.places.Moved.{Moved}
-use Rattle.resolve.specs.declared.places.Way.{Way}
-use Rattle.resolve.specs.declared.places.Way.TheVariants.{Made, Turned}
 
 -- the three lengths that a place holds
-abbrev pub length1 : List ℕ → ℕ
-length1 ns = get_or ns 0 0
+abbrev pub first_of : List ℕ → ℕ
+first_of ns = get_or ns 0 0
 
-abbrev pub length2 : List ℕ → ℕ
-length2 ns = get_or ns 1 0
+abbrev pub second_of : List ℕ → ℕ
+second_of ns = get_or ns 1 0
 
-abbrev pub length3 : List ℕ → ℕ
-length3 ns = get_or ns 2 0
+abbrev pub third_of : List ℕ → ℕ
+third_of ns = get_or ns 2 0
 
 -- those of the array that is still open
 abbrev pub open_lengths : List ℕ → List ℕ
-open_lengths ns = nonzero (length1 ns ∷ length2 ns ∷ length3 ns ∷ [])
+open_lengths ns = nonzero (first_of ns ∷ second_of ns ∷ third_of ns ∷ [])
 
-abbrev pub place_of : Place → Target
+abbrev pub place_of : Place → Defined
 place_of g = record {
   tag = g.tag;
   start = g.start;
@@ -34,17 +34,24 @@ place_of g = record {
   access = g.access;
 }
 
--- a place is found unless the move was turned away
-abbrev pub turn_of : Way → Target → Resolved
-turn_of Made g = found g
-turn_of (Turned s) g = turned (status_of s)
+-- the place that a move leads to, or the status that turns it away
+abbrev pub moved_of : Result Place Status → Resolved
+moved_of (Ok g) = found (place_of g)
+moved_of (Err s) = turned (status_of s)
 
-abbrev pub moved_of : Moved → Resolved
-moved_of m = turn_of m.turn (place_of m.place)
+-- `whole_tag` of a tag's row
+unfoldable pub whole_row : ℕ → Row → Defined
+whole_row i r = record {
+  tag = i;
+  start = tag_offset r;
+  type = tag_type r;
+  count = tag_elements r;
+  lengths = index_lengths r;
+  bit = no_bit;
+  access = tag_access r;
+}
 
--- the tables that a walk looks at
-abbrev pub on_walk : (structures members : List Row) (names : List ℕ) → Tables
-on_walk structures members names = tables_of structures members [] [] [] names [] []
-
-abbrev pub only_structures : (structures : List Row) → Tables
-only_structures structures = on_walk structures [] []
+-- a place as a target, with its type's size
+pub record Aims (structures : List Row) (g : Place) (r : Target) : Type 0 where
+  pub is : target_of r (open_lengths g.lengths) ≡ place_of g
+  pub size_is : r.size ≡ size_in structures r.ty

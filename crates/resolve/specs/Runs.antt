@@ -1,78 +1,54 @@
 -- A run of elements by its number and its last three values, held against three lengths.
-use Rattle.std.specs.Prelude.{◌≡◌, Bool, true, List, [], ◌∷◌, ℕ, ◌+◌, ◌*◌, ◌≤◌, ◌<◌, ltb, eqb}
+use Rattle.std.specs.Prelude.{◌≡◌, Bool, true, List, [], ◌∷◌, ℕ, ◌+◌, ◌*◌, ◌≤◌, ◌<◌, ltb, eqb, length, Option, None, Some}
 use Rattle.laws.specs.Pick.{pick, both, is_some}
-use Rattle.definition.specs.Reply.{path_error, path_unknown}
-use Rattle.definition.specs.Segment.{segments_from}
+use Rattle.definition.specs.Segment.{port, class, instance, element, attribute, symbol, Step, step, cut, segments_from}
 use Rattle.definition.specs.Tables.{Row}
 use Rattle.definition.specs.Types.{size_in}
 use Rattle.definition.specs.Valid.{product}
-use Rattle.definition.specs.Resolve.{Resolved, found, turned, elements_from}
 use Rattle.resolve.specs.declared.places.Place.{Place}
 use Rattle.resolve.specs.declared.elements.Run.{Run}
-use Rattle.resolve.specs.declared.elements.Element.{Element}
-use Rattle.resolve.specs.declared.elements.Element.TheVariants.{Of, Other}
-use Rattle.path.specs.declared.Segment.{Segment}
-use Rattle.path.specs.declared.Segment.TheVariants as path
-use Rattle.path.specs.declared.Segment.TheVariants.{Port, Class, Instance, Attribute, Symbol, Invalid}
 use Rattle.resolve.specs.Paths.{left, leading, behind}
-use Rattle.resolve.specs.Places.{length1, length2, length3, open_lengths, place_of, only_structures}
+use Rattle.resolve.specs.Places.{first_of, second_of, third_of, open_lengths}
 
-abbrev pub element_in : Segment → Element
-element_in (Port next) = Other
-element_in (Class x next) = Other
-element_in (Instance x next) = Other
-element_in (path.Element x next) = Of x next
-element_in (Attribute x next) = Other
-element_in (Symbol start n next) = Other
-element_in Invalid = Other
+-- the element that a step is, and where what follows it starts
+abbrev pub element_in : Step → Option (ℕ × ℕ)
+element_in cut = None
+element_in (step port next) = None
+element_in (step (class x) next) = None
+element_in (step (instance x) next) = None
+element_in (step (element x) next) = Some (x, next)
+element_in (step (attribute x) next) = None
+element_in (step (symbol name) next) = None
 
-pub record Values : Type 0 where
-  pub count : ℕ
-  pub first : ℕ
-  pub second : ℕ
-  pub third : ℕ
+-- the last three of some values, behind three others
+unfoldable pub last_three : (a b c : ℕ) → List ℕ → List ℕ
+last_three a b c [] = a ∷ b ∷ c ∷ []
+last_three a b c (e ∷ es) = last_three b c e es
 
-abbrev pub values : (count first second third : ℕ) → Values
-values count first second third = record { count = count; first = first; second = second; third = third }
-
-abbrev pub values_of : Run → Values
-values_of r = values r.count r.first r.second r.third
-
--- one value more
-unfoldable pub lead : Values → List ℕ → Values
-lead v [] = v
-lead v (e ∷ es) = lead (values (v.count + 1) v.second v.third e) es
-
-abbrev pub no_values : Values
-no_values = values 0 0 0 0
+-- the run of these values
+pub record Holds (es : List ℕ) (r : Run) : Type 0 where
+  pub count_is : r.count ≡ length es
+  pub last_are : r.last ≡ last_three 0 0 0 es
 
 -- the run at a position
 pub record Ran (path : List ℕ) (from : ℕ) (r : Run) : Type 0 where
-  pub values_are : values_of r ≡ lead no_values (leading (left path from))
+  pub values_are : Holds (leading (left path from)) r
   pub rest_is : left path r.next ≡ behind (left path from)
   pub decodes : is_some (segments_from path r.next) ≡ true
 
-abbrev pub dims_of : (lengths : List ℕ) → ℕ
-dims_of ns = pick (eqb (length1 ns) 0) 0 (pick (eqb (length2 ns) 0) 1 (pick (eqb (length3 ns) 0) 2 3))
+-- as many of the last three values as there are lengths, each below its length
+abbrev pub inside_of : (lengths last : List ℕ) → Bool
+inside_of ns es =
+    pick (eqb (second_of ns) 0) (ltb (third_of es) (first_of ns))
+    (pick (eqb (third_of ns) 0) (both (ltb (second_of es) (first_of ns)) (ltb (third_of es) (second_of ns)))
+    (both (ltb (first_of es) (first_of ns)) (both (ltb (second_of es) (second_of ns)) (ltb (third_of es) (third_of ns)))))
 
-abbrev pub inside_of : (lengths : List ℕ) → Values → Bool
-inside_of ns v =
-    pick (eqb (length2 ns) 0) (ltb v.third (length1 ns))
-    (pick (eqb (length3 ns) 0) (both (ltb v.second (length1 ns)) (ltb v.third (length2 ns)))
-    (both (ltb v.first (length1 ns)) (both (ltb v.second (length2 ns)) (ltb v.third (length3 ns)))))
-
-abbrev pub position_of : (lengths : List ℕ) → Values → ℕ
-position_of ns v =
-    pick (eqb (length2 ns) 0) v.third
-    (pick (eqb (length3 ns) 0) (v.second * length2 ns + v.third) ((v.first * length2 ns + v.second) * length3 ns + v.third))
-
-unfoldable pub index_of : (structures : List Row) → Place → Values → Resolved
-index_of structures g v =
-    let ns = g.lengths in
-    pick (eqb (length1 ns) 0) (turned path_error)
-    (pick (eqb v.count (dims_of ns))
-    (pick (inside_of ns v) (found (elements_from (only_structures structures) (place_of g) (position_of ns v))) (turned path_unknown))
-    (turned path_error))
+-- the position that they mean, row-major
+abbrev pub position_of : (lengths last : List ℕ) → ℕ
+position_of ns es =
+    pick (eqb (second_of ns) 0) (third_of es)
+    (pick (eqb (third_of ns) 0) (second_of es * second_of ns + third_of es)
+    ((first_of es * second_of ns + second_of es) * third_of ns + third_of es))
 
 -- what keeps sums and products small
 pub record Bounded (structures : List Row) (g : Place) : Type 0 where

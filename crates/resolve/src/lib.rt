@@ -2,180 +2,72 @@
 #![tactic(auto)]
 
 use cip::Status;
-use model::columns::{NO_BIT, STRUCTURE_AOI, TAG_ACCESS, TAG_ELEMENTS, TAG_OFFSET, TAG_TYPE};
-use model::{Flags, Target};
-use places::{Moved, Place, Way};
+use model::columns::STRUCTURE_AOI;
+use model::{Controller, Tables, Target};
+use places::Place;
 
-pub mod elements;
-pub mod members;
-pub mod moves;
-pub mod places;
-pub mod start;
+mod elements;
+mod members;
+mod moves;
+mod places;
+mod start;
 
-ghost use Rattle.std.specs.Prelude.{◌≡◌, true, ◌<◌};
+ghost use Rattle.std.specs.Prelude.{◌≡◌, true, [], ◌≤◌};
 ghost use Rattle.laws.specs.Pick.{is_some};
+ghost use Rattle.definition.specs.Access.{is_denied, refuses_locals};
+ghost use Rattle.definition.specs.Lookup.{marked};
 ghost use Rattle.definition.specs.Segment.{segments};
-ghost use Rattle.definition.specs.Tables.{tag_elements};
-ghost use Rattle.model.specs.Tables.{SomeValid, for_path, flags_of};
-ghost use Rattle.resolve.specs.Places.{place_of, moved_of};
-ghost use Rattle.resolve.specs.Answers.{ResolvesTo, Resolves, Targets, Aims, whole_row, closed_to, denied_to, refused_to};
-
-/// A tag path's target, or the status that turns it away.
-#[derive(Clone, Copy)]
-pub enum Resolved {
-    Found(Target),
-    Turned(Status),
-}
-
-/// The whole of a tag.
-fn whole_tag(row: &[u32; 12], i: usize) -> Place
-    requires { 0 < tag_elements row.now }
-    ensures { place_of result ≡ whole_row i row.now }
-{
-    let both = model::shapes::shapes(row);
-    let lengths = both[1];
-    Place {
-        tag: i,
-        start: cip::numbers::wide(row[TAG_OFFSET]),
-        ty: row[TAG_TYPE],
-        count: cip::numbers::wide(row[TAG_ELEMENTS]),
-        lengths: lengths,
-        bit: NO_BIT,
-        access: row[TAG_ACCESS],
-    }
-}
-
-/// A place as a target, with the bytes of one element.
-fn aim(structures: &[[u32; 10]], g: Place) -> Target
-    ensures { Aims structures.now g result }
-{
-    Target {
-        tag: g.tag,
-        start: g.start,
-        ty: g.ty,
-        size: cip::numbers::wide(model::types::element_size(structures, g.ty)),
-        count: g.count,
-        bit: g.bit,
-        access: g.access,
-    }
-}
-
-/// The answer that a walk along a path comes to.
-fn answer(structures: &[[u32; 10]], moved: Moved) -> Resolved
-    ensures { ResolvesTo structures.now (moved_of moved) result }
-{
-    let turn = moved.turn;
-    match turn {
-        Way::Made => {
-            let place = moved.place;
-            Resolved::Found(aim(structures, place))
-        }
-        Way::Turned(s) => Resolved::Turned(s),
-    }
-}
+ghost use Rattle.definition.specs.Tables.{is_aoi};
+ghost use Rattle.definition.specs.Types.{structure_in};
+ghost use Rattle.model.specs.Tables.{SomeValid, tables_of, flags_of, target_of};
+ghost use Rattle.resolve.specs.Answers.{path_tables, Resolves, Targets};
 
 /// What a tag path means, or the status that turns it away.
-pub fn resolve(
-    structures: &[[u32; 10]],
-    members: &[[u32; 9]],
-    programs: &[[u32; 2]],
-    tags: &[[u32; 12]],
-    names: &[u8],
-    tag_names: &[u8],
-    flags: Flags,
-    path: &[u8],
-) -> Resolved
-    requires { (is_some (segments path.now) ≡ true)
-        × SomeValid (for_path structures.now members.now programs.now tags.now names.now tag_names.now) }
-    ensures { Resolves structures.now members.now programs.now tags.now names.now
-        tag_names.now (flags_of flags) path.now result }
+pub fn resolve(c: &Controller, path: &[u8]) -> Result<Target, Status>
+    requires { (is_some (segments path.now) ≡ true) × SomeValid (path_tables (tables_of c.now.tables)) }
+    ensures { Resolves (tables_of c.now.tables) (flags_of c.now.flags) path.now result }
 {
-    match start::tag_of(programs, tags, names, tag_names, flags, path) {
-        start::Start::At(i, next) => {
-            let first = whole_tag(&tags[i], i);
-            let moved = moves::follow(structures, members, names, flags, path, next, first);
-            answer(structures, moved)
-        }
-        start::Start::Turned(s) => Resolved::Turned(s),
-    }
+    let start = start::tag_of(c, path)?;
+    let whole = Place::of_tag(start.tag, &c.tables.tags[start.tag]);
+    let place = moves::follow(c, path, start.next, whole)?;
+    Ok(place.target(&c.tables))
+}
+
+fn is_aoi(t: &Tables, ty: u32) -> bool
+    requires { 256 ≤ ty }
+    ensures { result ≡ marked (is_aoi (structure_in t.now.structures.now ty)) }
+{
+    let row = t.structures.get(model::types::index_of(ty));
+    row.is_some_and(|row| row[STRUCTURE_AOI] == 1)
 }
 
 /// An AOI type with locals, where these are refused.
-fn refuses_locals(structures: &[[u32; 10]], members: &[[u32; 9]], flags: Flags, ty: u32) -> bool
-    ensures { result ≡ refused_to structures.now members.now (flags_of flags) ty }
+#[tactic(auto, using(laws::proofs::Chain::tests), unfolding(definition::specs::Access::refuses_locals))]
+fn refuses_locals(c: &Controller, g: Target) -> bool
+    ensures { result ≡ refuses_locals (tables_of c.now.tables) (flags_of c.now.flags) (target_of g []) }
 {
-    if !flags.aoi_locals_refused {
-        return false;
-    }
-    if ty < model::types::FIRST_STRUCTURE {
-        return false;
-    }
-    let i = model::types::index_of(ty);
-    if structures.len() <= i {
-        return false;
-    }
-    if structures[i][STRUCTURE_AOI] != 1 {
-        return false;
-    }
-    model::lookup::has_local(members::members_of(structures, members, ty))
+    c.flags.aoi_locals_refused
+        && model::types::is_structure(g.ty)
+        && is_aoi(&c.tables, g.ty)
+        && model::lookup::has_local(c.tables.members_of(g.ty))
 }
 
-/// Access 3, or a write at access 2.
-fn is_closed(writes: bool, access: u32) -> bool
-    ensures { result ≡ closed_to writes access }
+/// Access 3, a write at access 2, or such a type.
+#[tactic(auto, using(laws::proofs::Chain::tests), unfolding(definition::specs::Access::is_denied))]
+fn is_denied(c: &Controller, writes: bool, g: Target) -> bool
+    ensures { result ≡ is_denied (tables_of c.now.tables) (flags_of c.now.flags) writes (target_of g []) }
 {
-    if access == 3 {
-        return true;
-    }
-    if writes {
-        return access == 2;
-    }
-    false
-}
-
-/// No access, or such a type.
-fn is_denied(
-    structures: &[[u32; 10]],
-    members: &[[u32; 9]],
-    flags: Flags,
-    writes: bool,
-    access: u32,
-    ty: u32,
-) -> bool
-    ensures { result ≡ denied_to structures.now members.now (flags_of flags) writes access ty }
-{
-    if is_closed(writes, access) {
-        return true;
-    }
-    refuses_locals(structures, members, flags, ty)
+    g.access == 3 || (writes && g.access == 2) || refuses_locals(c, g)
 }
 
 /// A tag service's target, or the status that turns the service away before its data is looked at.
-pub fn tag_target(
-    structures: &[[u32; 10]],
-    members: &[[u32; 9]],
-    programs: &[[u32; 2]],
-    tags: &[[u32; 12]],
-    names: &[u8],
-    tag_names: &[u8],
-    flags: Flags,
-    writes: bool,
-    path: &[u8],
-) -> Resolved
-    requires { (is_some (segments path.now) ≡ true)
-        × SomeValid (for_path structures.now members.now programs.now tags.now names.now tag_names.now) }
-    ensures { Targets structures.now members.now programs.now tags.now names.now
-        tag_names.now (flags_of flags) writes path.now result }
+pub fn tag_target(c: &Controller, writes: bool, path: &[u8]) -> Result<Target, Status>
+    requires { (is_some (segments path.now) ≡ true) × SomeValid (path_tables (tables_of c.now.tables)) }
+    ensures { Targets (tables_of c.now.tables) (flags_of c.now.flags) writes path.now result }
 {
-    match resolve(
-        structures, members, programs, tags, names, tag_names, flags, path,
-    ) {
-        Resolved::Found(g) => {
-            if is_denied(structures, members, flags, writes, g.access, g.ty) {
-                return Resolved::Turned(Status::Denied);
-            }
-            Resolved::Found(g)
-        }
-        Resolved::Turned(s) => Resolved::Turned(s),
+    let g = resolve(c, path)?;
+    if is_denied(c, writes, g) {
+        return Err(Status::Denied);
     }
+    Ok(g)
 }

@@ -1,2 +1,3 @@
+pub mod AllRows
 pub mod Laws
 pub mod Regrouped

@@ -1,11 +1,10 @@
 -- The validity of a table set as the code judges it: all tests of a row at once, and all tests of two rows at once. `Regrouped` of the proofs shows
 -- that this is the definition's `valid`.
-use Rattle.std.specs.Prelude.{Bool, true, not, List, ℕ, ◌+◌, ◌*◌, ltb, leb, eqb, length}
+use Rattle.std.specs.Prelude.{Bool, true, List, ℕ, ◌+◌, ◌*◌, ltb, leb, eqb, length}
 use Rattle.laws.specs.Pick.{pick, both}
 use Rattle.laws.specs.Tests.{every, every_from, pairs}
 use Rattle.definition.specs.Bytes.{part}
 use Rattle.definition.specs.Tables.{Tables, Row, field, template_id, handle, first_member, member_count, is_aoi, member_type, member_bit, no_bit, is_hidden, is_local, member_access, tag_scope, tag_id, tag_access, is_alias, other_scope, other_name, other_id, other_type}
-use Rattle.definition.specs.Types.{DWORD}
 use Rattle.definition.specs.Valid.{symbol_name_stored, is_mark, is_type, is16, is_name, is_other_name, tag_names_differ, other_names_differ, program_names_differ, ids_differ, structure_fits, tag_fits, end_in, apart}
 
 -- a name that stands in its store and is one
@@ -86,6 +85,3 @@ zeros_last3 a b c = pick (eqb a 0) (both (eqb b 0) (eqb c 0)) (pick (eqb b 0) (e
 -- the product of the nonzero ones, up to the first zero
 abbrev pub product3 : (a b c : ℕ) → ℕ
 product3 a b c = pick (eqb a 0) 1 (pick (eqb b 0) a (pick (eqb c 0) (a * b) (a * b * c)))
-
-abbrev pub bool_array3 : (type a b elements : ℕ) → Bool
-bool_array3 type a b elements = both (eqb type DWORD) (both (not (eqb a 0)) (both (eqb b 0) (eqb (elements * 32) a)))

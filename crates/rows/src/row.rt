@@ -1,15 +1,15 @@
 // The tests of one row: its encoding, its name, its fields.
-ghost use Rattle.std.specs.Prelude.{◌≡◌, ◌+◌, ◌*◌, ◌≤◌, ◌<◌, max, ltb, leb, eqb, length};
+ghost use Rattle.std.specs.Prelude.{◌≡◌, ◌+◌, ◌*◌, ltb, leb, length, get_or};
 ghost use Rattle.laws.specs.Pick.{both};
 ghost use Rattle.laws.specs.Tests.{every};
 ghost use Rattle.definition.specs.Names.{starts_with};
-ghost use Rattle.definition.specs.Tables.{first_member, member_count, tag_lengths};
-ghost use Rattle.definition.specs.Valid.{is_name, other_length, is_other_name, is_type, member_fits, structure_fits, zeros_last, tag_fits, end_in};
+ghost use Rattle.definition.specs.Valid.{is_name, other_length, is_other_name, is_type, member_fits, structure_fits, zeros_last, tag_fits, end_in, is_bool_array};
+ghost use Rattle.definition.specs.Tables.{tag_lengths};
 ghost use Rattle.definition.specs.Breach.{name_length, name_bytes, has_elements, ends_within};
-ghost use Rattle.rows.specs.Judged.{name_judged, structure_named, structure_judged, member_judged, program_judged, tag_judged, other_named, other_judged, zeros_last3, product3, bool_array3};
+ghost use Rattle.rows.specs.Judged.{name_judged, structure_named, structure_judged, member_judged, program_judged, tag_judged, other_named, other_judged, zeros_last3, product3};
 
 use cip::codes::DWORD;
-use cip::numbers;
+use model::Tables;
 use model::columns::{
     MEMBER_ACCESS, MEMBER_BIT, MEMBER_HIDDEN, MEMBER_LENGTH, MEMBER_LOCAL, MEMBER_NAME_LENGTH,
     MEMBER_NAME_START, MEMBER_OFFSET, MEMBER_TYPE, NO_BIT, OTHER_ID, OTHER_NAME_LENGTH,
@@ -20,168 +20,125 @@ use model::columns::{
     TAG_NAME_START, TAG_OFFSET, TAG_SCOPE, TAG_TYPE, TEMPLATE_LENGTH, TEMPLATE_START,
 };
 use model::lookup::part_of;
-use model::types::FIRST_STRUCTURE;
+use model::types::{self, FIRST_STRUCTURE};
 
 fn is_printable(b: u8) -> bool
     ensures { result ≡ both (leb 0x20 b) (leb b 0x7E) }
 {
-    if b < 0x20 {
-        return false;
-    }
-    b <= 0x7E
+    (0x20..=0x7E).contains(&b)
 }
 
 /// 1 to 40 bytes.
+#[tactic(auto, using(laws::proofs::Chain::tests), unfolding(definition::specs::Breach::name_length))]
 pub fn name_length(name: &[u8]) -> bool
     ensures { result ≡ name_length name.now }
 {
-    if name.len() == 0 {
-        return false;
-    }
-    name.len() <= 40
+    (1..=40).contains(&name.len())
 }
 
 /// Each byte 0x20 to 0x7E.
+#[tactic(auto, using(laws::proofs::Chain::tests), unfolding(definition::specs::Breach::name_bytes))]
 pub fn name_bytes(name: &[u8]) -> bool
     ensures { result ≡ name_bytes name.now }
 {
-    let mut i = 0;
-    while i < name.len() {
-        if is_printable(name[i]) {
-            i += 1;
-        } else {
-            return false;
-        }
-    }
-    true
+    name.iter().all(|b| is_printable(*b))
 }
 
 /// 1 to 40 bytes 0x20 to 0x7E.
+#[tactic(auto, using(laws::proofs::Chain::tests, crate::proofs::Laws::is_name_by))]
 pub fn is_name(name: &[u8]) -> bool
     ensures { result ≡ is_name name.now }
 {
-    if !name_length(name) {
-        return false;
-    }
-    name_bytes(name)
+    name_length(name) && name_bytes(name)
 }
 
-const PROGRAM_PREFIX: [u8; 8] = *b"program:";
-
-const ROUTINE_PREFIX: [u8; 8] = *b"routine:";
-
-const TASK_PREFIX: [u8; 5] = *b"task:";
+/// The prefixes that do not count to the length of an other symbol's name.
+const PREFIXES: [&[u8]; 3] = [b"program:", b"routine:", b"task:"];
 
 /// A name's first bytes are a prefix's, case ignored.
+#[tactic(auto, using(laws::proofs::Chain::tests), unfolding(definition::specs::Names::starts_with))]
 fn starts_with(name: &[u8], prefix: &[u8]) -> bool
     ensures { result ≡ starts_with prefix.now name.now }
 {
-    if name.len() < prefix.len() {
-        return false;
-    }
-    path::same_name(&name[..prefix.len()], prefix)
+    let start = name.get(..prefix.len()).unwrap_or(name);
+    path::same_name(start, prefix)
 }
 
 /// P2: 0 to 40 bytes behind a prefix, 1 to 40 in all without one. A name of 1 to 40 bytes is short enough with a prefix too.
 pub fn other_length(name: &[u8]) -> bool
     ensures { result ≡ other_length name.now }
 {
-    if name_length(name) {
-        return true;
-    }
-    let program = PROGRAM_PREFIX;
-    if starts_with(name, &program) {
-        return name.len() <= 48;
-    }
-    let routine = ROUTINE_PREFIX;
-    if starts_with(name, &routine) {
-        return name.len() <= 48;
-    }
-    let task = TASK_PREFIX;
-    if starts_with(name, &task) {
-        return name.len() <= 45;
-    }
-    false
+    name_length(name)
+        || PREFIXES.iter().any(|prefix| starts_with(name, prefix)
+            && name.len() <= prefix.len() + 40)
 }
 
 /// An other symbol's name: as many bytes as it may have, each 0x20 to 0x7E.
+#[tactic(auto, using(laws::proofs::Chain::tests), unfolding(definition::specs::Valid::is_other_name, definition::specs::Breach::name_bytes))]
 pub fn is_other_name(name: &[u8]) -> bool
     ensures { result ≡ is_other_name name.now }
 {
-    if !other_length(name) {
-        return false;
-    }
-    name_bytes(name)
+    other_length(name) && name_bytes(name)
+}
+
+/// A sum of two words is at most a length.
+pub fn within(a: u32, b: u32, n: usize) -> bool
+    ensures { result ≡ leb (a + b) n }
+{
+    a as usize + b as usize <= n
 }
 
 /// A name that stands in its store and is one.
+#[tactic(auto, using(laws::proofs::Chain::tests), unfolding(crate::specs::Judged::name_judged))]
 pub fn name_judged(store: &[u8], start: u32, n: u32) -> bool
     ensures { result ≡ name_judged store.now start n }
 {
-    let a = numbers::wide(start);
-    let e = a + numbers::wide(n);
-    if e > store.len() {
-        return false;
-    }
-    is_name(&store[a..e])
+    within(start, n, store.len()) && is_name(part_of(store, start, n))
 }
 
 /// An atomic code, or a structure below an index.
+#[tactic(auto, using(laws::proofs::Chain::chain), unfolding(definition::specs::Valid::is_type))]
 pub fn is_type(bound: usize, ty: u32) -> bool
     ensures { result ≡ is_type bound ty }
 {
     if ty < FIRST_STRUCTURE {
-        return 0 < model::types::atomic_size(ty);
+        return 0 < types::atomic_size(ty);
     }
-    numbers::wide(ty - FIRST_STRUCTURE) < bound
+    types::index_of(ty) < bound
 }
 
 /// `start` plus `n` times `size`, which fits 64 bits.
 fn end_of(start: u32, n: u32, size: u32) -> u64
     ensures { result ≡ start + n * size }
 {
-    numbers::long(start) + numbers::long(n) * numbers::long(size)
-}
-
-fn at_least_one(n: u32) -> u32
-    ensures { result ≡ max 1 n }
-{
-    if n < 1 { 1 } else { n }
+    u64::from(start) + u64::from(n) * u64::from(size)
 }
 
 /// All array elements counted, a member ends in `size` bytes.
+#[tactic(auto, using(laws::proofs::Chain::tests), unfolding(definition::specs::Breach::ends_within))]
 pub fn member_inside(row: &[u32; 9], structures: &[[u32; 10]], size: u32) -> bool
     ensures { result ≡ ends_within structures.now size row.now }
 {
-    let bytes = model::types::element_size(structures, row[MEMBER_TYPE]);
-    end_of(row[MEMBER_OFFSET], bytes, at_least_one(row[MEMBER_LENGTH])) <= numbers::long(size)
+    let bytes = types::element_size(structures, row[MEMBER_TYPE]);
+    end_of(row[MEMBER_OFFSET], bytes, row[MEMBER_LENGTH].max(1)) <= u64::from(size)
 }
 
 /// A member of structure i, which has `size` bytes.
+#[tactic(auto, using(laws::proofs::Chain::tests), unfolding(definition::specs::Valid::member_fits, definition::specs::Breach::ends_within))]
 fn member_fits(row: &[u32; 9], structures: &[[u32; 10]], i: usize, size: u32) -> bool
     ensures { result ≡ member_fits structures.now i size row.now }
 {
-    if !is_type(i, row[MEMBER_TYPE]) {
-        return false;
-    }
-    if !member_inside(row, structures, size) {
-        return false;
-    }
-    row[MEMBER_BIT] <= NO_BIT
+    is_type(i, row[MEMBER_TYPE])
+        && member_inside(row, structures, size)
+        && row[MEMBER_BIT] <= NO_BIT
 }
 
 fn members_fit(members: &[[u32; 9]], structures: &[[u32; 10]], i: usize, size: u32) -> bool
     ensures { result ≡ every (member_fits structures.now i size) members.now }
 {
-    let mut j = 0;
-    while j < members.len() {
-        if member_fits(&members[j], structures, i, size) {
-            j += 1;
-        } else {
-            return false;
-        }
-    }
-    true
+    members
+        .iter()
+        .all(|row| member_fits(row, structures, i, size))
 }
 
 pub fn fits16(x: u32) -> bool
@@ -190,203 +147,137 @@ pub fn fits16(x: u32) -> bool
     x <= 65535
 }
 
-/// A sum of two words is at most a length.
-pub fn within(a: u32, b: u32, n: usize) -> bool
-    ensures { result ≡ leb (a + b) n }
-{
-    numbers::wide(a) + numbers::wide(b) <= n
-}
-
 /// 1 to 65,535 bytes.
+#[tactic(auto, using(laws::proofs::Chain::tests))]
 pub fn size_fits(size: u32) -> bool
     ensures { result ≡ both (ltb 0 size) (leb size 65535) }
 {
-    if size == 0 {
-        return false;
-    }
-    fits16(size)
+    0 < size && fits16(size)
 }
 
 /// A structure's name, its numbers' widths and its mark.
+#[tactic(auto, using(laws::proofs::Chain::tests), unfolding(crate::specs::Judged::structure_named))]
 fn structure_named(row: &[u32; 10], names: &[u8]) -> bool
     ensures { result ≡ structure_named names.now row.now }
 {
-    if !name_judged(names, row[STRUCTURE_NAME_START], row[STRUCTURE_NAME_LENGTH]) {
-        return false;
-    }
-    if !fits16(row[STRUCTURE_TEMPLATE]) {
-        return false;
-    }
-    if !fits16(row[STRUCTURE_HANDLE]) {
-        return false;
-    }
-    row[STRUCTURE_AOI] <= 1
+    name_judged(names, row[STRUCTURE_NAME_START], row[STRUCTURE_NAME_LENGTH])
+        && fits16(row[STRUCTURE_TEMPLATE])
+        && fits16(row[STRUCTURE_HANDLE])
+        && row[STRUCTURE_AOI] <= 1
 }
 
-/// T4 of the row of structure i, whose members stand in their table.
-fn structure_fits(
-    row: &[u32; 10],
-    structures: &[[u32; 10]],
-    members: &[[u32; 9]],
-    templates: usize,
-    i: usize,
-) -> bool
-    requires { first_member row.now + member_count row.now ≤ length members.now }
-    ensures { result ≡ structure_fits structures.now members.now templates i row.now }
+/// T4 of the row of structure i.
+#[tactic(auto, using(laws::proofs::Chain::tests, crate::proofs::Laws::structure_fits_by))]
+fn structure_fits(row: &[u32; 10], t: &Tables, i: usize) -> bool
+    ensures { result ≡ structure_fits t.now.structures.now t.now.members.now
+        (length t.now.templates.now) i row.now }
 {
-    if !size_fits(row[STRUCTURE_SIZE]) {
-        return false;
-    }
-    if !within(row[TEMPLATE_START], row[TEMPLATE_LENGTH], templates) {
-        return false;
-    }
-    let first = numbers::wide(row[STRUCTURE_FIRST_MEMBER]);
-    let end = first + numbers::wide(row[STRUCTURE_MEMBERS]);
-    members_fit(&members[first..end], structures, i, row[STRUCTURE_SIZE])
+    let size = row[STRUCTURE_SIZE];
+    let members = part_of(
+        t.members,
+        row[STRUCTURE_FIRST_MEMBER],
+        row[STRUCTURE_MEMBERS],
+    );
+    size_fits(size)
+        && within(row[TEMPLATE_START], row[TEMPLATE_LENGTH], t.templates.len())
+        && members_fit(members, t.structures, i, size)
 }
 
 /// The row of structure i.
-pub fn structure_judged(
-    row: &[u32; 10],
-    structures: &[[u32; 10]],
-    members: &[[u32; 9]],
-    names: &[u8],
-    templates: usize,
-    i: usize,
-) -> bool
-    ensures { result ≡ structure_judged structures.now members.now names.now templates i row.now }
+#[tactic(auto, using(laws::proofs::Chain::tests), unfolding(crate::specs::Judged::structure_judged))]
+pub fn structure_judged(row: &[u32; 10], t: &Tables, i: usize) -> bool
+    ensures { result ≡ structure_judged t.now.structures.now t.now.members.now t.now.names.now
+        (length t.now.templates.now) i row.now }
 {
-    if !structure_named(row, names) {
-        return false;
-    }
-    if !within(
-        row[STRUCTURE_FIRST_MEMBER],
-        row[STRUCTURE_MEMBERS],
-        members.len(),
-    ) {
-        return false;
-    }
-    structure_fits(row, structures, members, templates, i)
+    structure_named(row, t.names)
+        && within(
+            row[STRUCTURE_FIRST_MEMBER],
+            row[STRUCTURE_MEMBERS],
+            t.members.len(),
+        )
+        && structure_fits(row, t, i)
 }
 
 /// A member row by itself.
-pub fn member_judged(row: &[u32; 9], names: &[u8], structures: usize) -> bool
-    ensures { result ≡ member_judged names.now structures row.now }
+#[tactic(auto, using(laws::proofs::Chain::tests), unfolding(crate::specs::Judged::member_judged))]
+pub fn member_judged(row: &[u32; 9], t: &Tables) -> bool
+    ensures { result ≡ member_judged t.now.names.now (length t.now.structures.now) row.now }
 {
-    if !name_judged(names, row[MEMBER_NAME_START], row[MEMBER_NAME_LENGTH]) {
-        return false;
-    }
-    if !is_type(structures, row[MEMBER_TYPE]) {
-        return false;
-    }
-    if row[MEMBER_HIDDEN] > 1 {
-        return false;
-    }
-    if row[MEMBER_LOCAL] > 1 {
-        return false;
-    }
-    if row[MEMBER_ACCESS] > 3 {
-        return false;
-    }
-    row[MEMBER_BIT] <= NO_BIT
+    name_judged(t.names, row[MEMBER_NAME_START], row[MEMBER_NAME_LENGTH])
+        && is_type(t.structures.len(), row[MEMBER_TYPE])
+        && row[MEMBER_HIDDEN] <= 1
+        && row[MEMBER_LOCAL] <= 1
+        && row[MEMBER_ACCESS] <= 3
+        && row[MEMBER_BIT] <= NO_BIT
 }
 
-pub fn program_judged(row: &[u32; 2], names: &[u8]) -> bool
-    ensures { result ≡ program_judged names.now row.now }
+#[tactic(auto, using(laws::proofs::Chain::tests), unfolding(crate::specs::Judged::program_judged))]
+pub fn program_judged(row: &[u32; 2], t: &Tables) -> bool
+    ensures { result ≡ program_judged t.now.names.now row.now }
 {
-    name_judged(names, row[PROGRAM_NAME_START], row[PROGRAM_NAME_LENGTH])
+    name_judged(t.names, row[PROGRAM_NAME_START], row[PROGRAM_NAME_LENGTH])
 }
 
 /// Nonzero lengths first, and zeros after.
-fn zeros_last(a: u32, b: u32, c: u32) -> bool
-    ensures { result ≡ zeros_last3 a b c }
+#[tactic(auto, using(laws::proofs::Chain::chain))]
+fn zeros_last(lengths: [u32; 3]) -> bool
+    ensures { result ≡ zeros_last3 (get_or lengths 0 0) (get_or lengths 1 0) (get_or lengths 2 0) }
 {
-    if a == 0 {
-        if b == 0 {
-            return c == 0;
-        }
-        return false;
+    match lengths {
+        [0, b, c] => b == 0 && c == 0,
+        [_, 0, c] => c == 0,
+        _ => true,
     }
-    if b == 0 {
-        return c == 0;
-    }
-    true
-}
-
-/// Whether a number is the product of the nonzero lengths, which may exceed 64 bits.
-fn is_product(elements: u32, a: u32, b: u32, c: u32) -> bool
-    ensures { result ≡ eqb elements (product3 a b c) }
-{
-    if a == 0 {
-        return elements == 1;
-    }
-    if b == 0 {
-        return elements == a;
-    }
-    let two = numbers::long(a) * numbers::long(b);
-    if c == 0 {
-        return numbers::long(elements) == two;
-    }
-    if two > 4294967295 {
-        return false;
-    }
-    numbers::long(elements) == two * numbers::long(c)
-}
-
-/// A DWORD tag with one length 32k may have k elements.
-fn is_bool_array(ty: u32, a: u32, b: u32, elements: u32) -> bool
-    ensures { result ≡ bool_array3 ty a b elements }
-{
-    if ty != DWORD {
-        return false;
-    }
-    if a == 0 {
-        return false;
-    }
-    if b != 0 {
-        return false;
-    }
-    numbers::long(elements) * 32 == numbers::long(a)
 }
 
 /// A tag's nonzero lengths stand first.
 pub fn lengths_first(row: &[u32; 12]) -> bool
     ensures { result ≡ zeros_last (tag_lengths row.now) }
 {
-    zeros_last(row[TAG_LENGTH_1], row[TAG_LENGTH_2], row[TAG_LENGTH_3])
+    zeros_last([row[TAG_LENGTH_1], row[TAG_LENGTH_2], row[TAG_LENGTH_3]])
+}
+
+/// The product of the nonzero lengths, which may exceed 64 bits.
+#[tactic(auto, using(laws::proofs::Chain::chain))]
+fn product(lengths: [u32; 3]) -> u128
+    ensures { result ≡ product3 (get_or lengths 0 0) (get_or lengths 1 0) (get_or lengths 2 0) }
+{
+    let [a, b, c] = lengths;
+    let two = u128::from(a) * u128::from(b);
+    match lengths {
+        [0, _, _] => 1,
+        [_, 0, _] => u128::from(a),
+        [_, _, 0] => two,
+        _ => two * u128::from(c),
+    }
+}
+
+/// A DWORD tag with one length 32k may have k elements.
+#[tactic(auto, using(laws::proofs::Chain::tests, crate::proofs::Laws::bool_array_by))]
+fn is_bool_array(row: &[u32; 12]) -> bool
+    ensures { result ≡ is_bool_array row.now }
+{
+    row[TAG_TYPE] == DWORD
+        && row[TAG_LENGTH_1] != 0
+        && row[TAG_LENGTH_2] == 0
+        && u64::from(row[TAG_ELEMENTS]) * 32 == u64::from(row[TAG_LENGTH_1])
 }
 
 /// A tag has the product of its lengths in elements, or a BOOL array's.
+#[tactic(auto, using(laws::proofs::Chain::eithers, crate::proofs::Laws::elements_by))]
 pub fn elements_fit(row: &[u32; 12]) -> bool
     ensures { result ≡ has_elements row.now }
 {
-    if is_product(
-        row[TAG_ELEMENTS],
-        row[TAG_LENGTH_1],
-        row[TAG_LENGTH_2],
-        row[TAG_LENGTH_3],
-    ) {
-        return true;
-    }
-    is_bool_array(
-        row[TAG_TYPE],
-        row[TAG_LENGTH_1],
-        row[TAG_LENGTH_2],
-        row[TAG_ELEMENTS],
-    )
+    let lengths = [row[TAG_LENGTH_1], row[TAG_LENGTH_2], row[TAG_LENGTH_3]];
+    u128::from(row[TAG_ELEMENTS]) == product(lengths) || is_bool_array(row)
 }
 
 /// T5 of a tag row.
+#[tactic(auto, using(laws::proofs::Chain::tests), unfolding(definition::specs::Valid::tag_fits, definition::specs::Breach::has_elements))]
 fn tag_fits(row: &[u32; 12], structures: usize) -> bool
     ensures { result ≡ tag_fits structures row.now }
 {
-    if !is_type(structures, row[TAG_TYPE]) {
-        return false;
-    }
-    if !lengths_first(row) {
-        return false;
-    }
-    elements_fit(row)
+    is_type(structures, row[TAG_TYPE]) && lengths_first(row) && elements_fit(row)
 }
 
 /// Where a tag's bytes end.
@@ -396,7 +287,7 @@ pub fn tag_end(row: &[u32; 12], structures: &[[u32; 10]]) -> u64
     end_of(
         row[TAG_OFFSET],
         row[TAG_ELEMENTS],
-        model::types::element_size(structures, row[TAG_TYPE]),
+        types::element_size(structures, row[TAG_TYPE]),
     )
 }
 
@@ -408,58 +299,36 @@ pub fn tag_within(row: &[u32; 12], structures: &[[u32; 10]], memory: usize) -> b
 }
 
 /// A tag row by itself.
-pub fn tag_judged(
-    row: &[u32; 12],
-    structures: &[[u32; 10]],
-    tag_names: &[u8],
-    programs: usize,
-    memory: usize,
-) -> bool
-    ensures { result ≡ tag_judged structures.now tag_names.now programs memory row.now }
+#[tactic(auto, using(laws::proofs::Chain::tests), unfolding(crate::specs::Judged::tag_judged))]
+pub fn tag_judged(row: &[u32; 12], t: &Tables, memory: usize) -> bool
+    ensures { result ≡ tag_judged t.now.structures.now t.now.tag_names.now
+        (length t.now.programs.now) memory row.now }
 {
-    if numbers::wide(row[TAG_SCOPE]) > programs {
-        return false;
-    }
-    if !name_judged(tag_names, row[TAG_NAME_START], row[TAG_NAME_LENGTH]) {
-        return false;
-    }
-    if row[TAG_ALIAS] > 1 {
-        return false;
-    }
-    if row[TAG_ACCESS] > 3 {
-        return false;
-    }
-    if row[TAG_ID] == 0 {
-        return false;
-    }
-    if !tag_fits(row, structures.len()) {
-        return false;
-    }
-    tag_within(row, structures, memory)
+    row[TAG_SCOPE] as usize <= t.programs.len()
+        && name_judged(t.tag_names, row[TAG_NAME_START], row[TAG_NAME_LENGTH])
+        && row[TAG_ALIAS] <= 1
+        && row[TAG_ACCESS] <= 3
+        && row[TAG_ID] != 0
+        && tag_fits(row, t.structures.len())
+        && tag_within(row, t.structures, memory)
 }
 
 /// Another symbol's name stands in its store and is one.
+#[tactic(auto, using(laws::proofs::Chain::tests), unfolding(crate::specs::Judged::other_named))]
 fn other_named(row: &[u32; 5], names: &[u8]) -> bool
     ensures { result ≡ other_named names.now row.now }
 {
-    if !within(row[OTHER_NAME_START], row[OTHER_NAME_LENGTH], names.len()) {
-        return false;
-    }
-    is_other_name(part_of(names, row[OTHER_NAME_START], row[OTHER_NAME_LENGTH]))
+    within(row[OTHER_NAME_START], row[OTHER_NAME_LENGTH], names.len())
+        && is_other_name(part_of(names, row[OTHER_NAME_START], row[OTHER_NAME_LENGTH]))
 }
 
 /// Another symbol's row by itself.
-pub fn other_judged(row: &[u32; 5], names: &[u8], programs: usize) -> bool
-    ensures { result ≡ other_judged names.now programs row.now }
+#[tactic(auto, using(laws::proofs::Chain::tests), unfolding(crate::specs::Judged::other_judged))]
+pub fn other_judged(row: &[u32; 5], t: &Tables) -> bool
+    ensures { result ≡ other_judged t.now.names.now (length t.now.programs.now) row.now }
 {
-    if numbers::wide(row[OTHER_SCOPE]) > programs {
-        return false;
-    }
-    if !other_named(row, names) {
-        return false;
-    }
-    if !fits16(row[OTHER_TYPE]) {
-        return false;
-    }
-    row[OTHER_ID] != 0
+    row[OTHER_SCOPE] as usize <= t.programs.len()
+        && other_named(row, t.names)
+        && fits16(row[OTHER_TYPE])
+        && row[OTHER_ID] != 0
 }

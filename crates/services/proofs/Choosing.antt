@@ -4,7 +4,7 @@ use mathlib.Core.Path.{◌≡◌, refl, sym, ap, ◌∙◌}
 use mathlib.Core.Bool.{Bool, true, false, not}
 use mathlib.Core.List.{List, ◌∷◌}
 use mathlib.Core.Logic.{◌≢◌}
-use mathlib.Core.Option.{some}
+use Rattle.std.specs.Prelude.{Option, None, Some}
 use Prim.Native.Nat.{ℕ}
 use lib.Dec.{eqb}
 use lib.ListN.{length}
@@ -22,33 +22,34 @@ use Rattle.definition.specs.Answer.{capped, otherwise, is_tag_service, tag_servi
 use Rattle.cip.specs.Writes.{Laid}
 use Rattle.path.specs.Paths.{tag_path_from, ObjectAt}
 use Rattle.path.specs.declared.Object.{Object}
-use Rattle.path.specs.declared.Object.TheVariants.{Of, Nothing}
 use Rattle.services.specs.declared.Own.{Own}
 use Rattle.services.specs.declared.Own.TheVariants as own
-use Rattle.listing.specs.Pages.{Lists}
+use Rattle.model.specs.Tables.{WhereValid}
+use Rattle.listing.specs.Pages.{list_lent}
+use Rattle.definition.specs.Symbols.{list_symbols}
 use Rattle.services.specs.Answers.{Answers, OnPath}
 use Rattle.services.specs.Services.{own_of, object_is}
 use Rattle.services.proofs.Serving.{laid_answers}
 
 -- the object of the path that was decoded
-object_is_lem : (path : List ℕ) (o : Object) (l : List Segment) → ObjectAt path 0 o → segments path ≡ some l → object_of l ≡ object_is o
-object_is_lem path (Of c i next) l h s = let e : l ≡ class c ∷ (instance i ∷ h.rest) = cc (s, h.is) in rw e
-object_is_lem path Nothing l h s = h l s
+object_is_lem : (path : List ℕ) (o : Option Object) (l : List Segment) → ObjectAt path 0 o → segments path ≡ Some l → object_of l ≡ object_is o
+object_is_lem path (Some o) l h s = let e : l ≡ class o.class ∷ (instance o.instance ∷ h.rest) = cc (s, h.is) in rw e
+object_is_lem path None l h s = h l s
 
 module _ (tables : Tables) (f : Flags) (memory : List ℕ) (service : ℕ) (path body : List ℕ) (limit : ℕ) (old : List ℕ) (r : ℕ) (new : List ℕ) where
   abbrev By : (after : List ℕ) → Type 0
   By after = OnPath path limit (λ l. by_service tables f memory service l body limit) old r new after
 
   pub by_page : service ≡ 0x55 → valid tables (length memory) ≡ true
-      → Lists tables.structures tables.programs tables.tags tables.others tables.names tables.tag_names service path body limit old r new
+      → WhereValid (list_lent tables) (λ t. (l : List Segment) → segments path ≡ Some l → Laid limit (list_symbols t service l body limit) old r new)
       → By memory
   unfolding by_service
   by_page e ok h = record {
-    is = λ l s. rw (eq-eqb service 0x55 e) (laid_answers limit _ old r new memory (h.is tables (length memory) ok l s));
+    is = λ l s. rw (eq-eqb service 0x55 e) (laid_answers limit _ old r new memory (h tables (length memory) ok l s));
   }
 
   module _ (no-page : service ≢ 0x55) (b : Bool) (tagged : b ≡ both (is_tag_service service) (tag_path_from path 0)) where
-    tag_test : (l : List Segment) → segments path ≡ some l → both (is_tag_service service) (is_tag_path l) ≡ b
+    tag_test : (l : List Segment) → segments path ≡ Some l → both (is_tag_service service) (is_tag_path l) ≡ b
     unfolding tag_path_from
     tag_test l s = sym (rw s at tagged)
 
@@ -56,7 +57,7 @@ module _ (tables : Tables) (f : Flags) (memory : List ℕ) (service : ℕ) (path
     unfolding by_service
     by_tag e after h = record { is = λ l s. rw (ne_eqb service 0x55 no-page, tag_test l s, e) (h.is l s) }
 
-    pub by_other : b ≡ false → (o : Object) → ObjectAt path 0 o → Laid limit (capped service limit (otherwise service (object_is o))) old r new → By memory
+    pub by_other : b ≡ false → (o : Option Object) → ObjectAt path 0 o → Laid limit (capped service limit (otherwise service (object_is o))) old r new → By memory
     unfolding by_service
     by_other e o at h = record {
       is = λ l s. rw (ne_eqb service 0x55 no-page, tag_test l s, e, object_is_lem path o l at s) (laid_answers limit _ old r new memory h);
@@ -64,92 +65,41 @@ module _ (tables : Tables) (f : Flags) (memory : List ℕ) (service : ℕ) (path
 
   -- ---- items 9 to 12
 
-  abbrev by_own : (l : List Segment) → Own → Answer
-  by_own l (own.SymbolList i) = answered (capped service limit (symbol_attributes tables service i body)) memory
-  by_own l (own.StructureList i) = answered (capped service limit (structure_attributes tables.structures service i body)) memory
-  by_own l (own.Template i) = answered (read_template tables service (template_in tables.structures i) body limit) memory
-  by_own l own.Nothing = by_service tables f memory service l body limit
+  abbrev by_own : (l : List Segment) → Option Own → Answer
+  by_own l (Some (own.SymbolList i)) = answered (capped service limit (symbol_attributes tables service i body)) memory
+  by_own l (Some (own.StructureList i)) = answered (capped service limit (structure_attributes tables.structures service i body)) memory
+  by_own l (Some (own.Template i)) = answered (read_template tables service (template_in tables.structures i) body limit) memory
+  by_own l None = by_service tables f memory service l body limit
 
-  own_is : (o : Object) (l : List Segment) → by_object tables f memory service (object_is o) l body limit ≡ by_own l (own_of o service f.micro800)
-  own_is (Of c i next) l =
-      let a = both (eqb c 0x6B) (both (eqb service 0x03) (not f.micro800)) in
-      let b = both (eqb c 0x6C) (eqb service 0x03) in
-      let d = both (eqb c 0x6C) (eqb service 0x4C) in
-      sym (pick-map (by_own l) a (own.SymbolList i) (pick b (own.StructureList i) (pick d (own.Template i) own.Nothing))
-      ∙ ap (pick a (by_own l (own.SymbolList i))) (pick-map (by_own l) b (own.StructureList i) (pick d (own.Template i) own.Nothing)
-      ∙ ap (pick b (by_own l (own.StructureList i))) (pick-map (by_own l) d (own.Template i) own.Nothing)))
-  own_is Nothing l = refl
+  own_is : (o : Option Object) (l : List Segment) → by_object tables f memory service (object_is o) l body limit ≡ by_own l (own_of o service f.micro800)
+  own_is (Some o) l =
+      let a = both (eqb o.class 0x6B) (both (eqb service 0x03) (not f.micro800)) in
+      let b = both (eqb o.class 0x6C) (eqb service 0x03) in
+      let d = both (eqb o.class 0x6C) (eqb service 0x4C) in
+      let i = o.instance in
+      sym (pick-map (by_own l) a (Some (own.SymbolList i)) (pick b (Some (own.StructureList i)) (pick d (Some (own.Template i)) None))
+      ∙ ap (pick a (by_own l (Some (own.SymbolList i)))) (pick-map (by_own l) b (Some (own.StructureList i)) (pick d (Some (own.Template i)) None)
+      ∙ ap (pick b (by_own l (Some (own.StructureList i)))) (pick-map (by_own l) d (Some (own.Template i)) None)))
+  own_is None l = refl
 
   abbrev Plain : (after : List ℕ) → Type 0
   Plain after = OnPath path limit (λ l. plain tables f memory service l body limit) old r new after
 
-  module _ (o : Object) (at : ObjectAt path 0 o) (w : Own) (chosen : w ≡ own_of o service f.micro800) where
-    plain_own : (after : List ℕ) → ((l : List Segment) → segments path ≡ some l → Answers limit (by_own l w) old r new after) → Plain after
+  module _ (o : Option Object) (at : ObjectAt path 0 o) (w : Option Own) (chosen : w ≡ own_of o service f.micro800) where
+    plain_own : (after : List ℕ) → ((l : List Segment) → segments path ≡ Some l → Answers limit (by_own l w) old r new after) → Plain after
     unfolding plain
     plain_own after h = record { is = λ l s. rw (object_is_lem path o l at s, own_is o l, ← chosen) (h l s) }
 
-    pub plain-symbols : (i : ℕ) → w ≡ own.SymbolList i → Laid limit (capped service limit (symbol_attributes tables service i body)) old r new → Plain memory
+    pub plain-symbols : (i : ℕ) → w ≡ Some (own.SymbolList i) → Laid limit (capped service limit (symbol_attributes tables service i body)) old r new → Plain memory
     plain-symbols i e h = plain_own memory (λ l s. rw e (laid_answers limit _ old r new memory h))
 
-    pub plain-structures : (i : ℕ) → w ≡ own.StructureList i
+    pub plain-structures : (i : ℕ) → w ≡ Some (own.StructureList i)
         → Laid limit (capped service limit (structure_attributes tables.structures service i body)) old r new → Plain memory
     plain-structures i e h = plain_own memory (λ l s. rw e (laid_answers limit _ old r new memory h))
 
-    pub plain_template : (i : ℕ) → w ≡ own.Template i
+    pub plain_template : (i : ℕ) → w ≡ Some (own.Template i)
         → Laid limit (read_template tables service (template_in tables.structures i) body limit) old r new → Plain memory
     plain_template i e h = plain_own memory (λ l s. rw e (laid_answers limit _ old r new memory h))
 
-    pub plain_by : w ≡ own.Nothing → (after : List ℕ) → By after → Plain after
+    pub plain_by : w ≡ None → (after : List ℕ) → By after → Plain after
     plain_by e after h = plain_own after (λ l s. rw e (h.is l s))
-
--- ---- the tests themselves
-
-module _ (o : Object) (service : ℕ) (micro800 : Bool) where
-  pub own_no_object : o ≡ Nothing → own.Nothing ≡ own_of o service micro800
-  own_no_object is = rw is
-
-  module _ (class i next : ℕ) (is : o ≡ Of class i next) where
-    pub own_micro : class ≡ 0x6B → service ≡ 0x03 → micro800 ≡ true → own.Nothing ≡ own_of o service micro800
-    own_micro e f g = rw (is, e, f, g)
-
-    pub own_symbols : class ≡ 0x6B → service ≡ 0x03 → micro800 ≡ false → own.SymbolList i ≡ own_of o service micro800
-    own_symbols e f g = rw (is, e, f, g)
-
-    pub own_no_list : class ≡ 0x6B → service ≢ 0x03 → own.Nothing ≡ own_of o service micro800
-    own_no_list e f = rw (is, e, ne_eqb service 0x03 f)
-
-    pub own_structures : class ≡ 0x6C → service ≡ 0x03 → own.StructureList i ≡ own_of o service micro800
-    own_structures e f = rw (is, e, f)
-
-    pub own_template : class ≡ 0x6C → service ≡ 0x4C → own.Template i ≡ own_of o service micro800
-    own_template e f = rw (is, e, f)
-
-    pub own_no_read : class ≡ 0x6C → service ≢ 0x03 → service ≢ 0x4C → own.Nothing ≡ own_of o service micro800
-    own_no_read e f g = rw (is, e, ne_eqb service 0x03 f, ne_eqb service 0x4C g)
-
-    pub own_none : class ≢ 0x6B → class ≢ 0x6C → own.Nothing ≡ own_of o service micro800
-    own_none e f = rw (is, ne_eqb class 0x6B e, ne_eqb class 0x6C f)
-
-pub ruleset owns = (own_no_object, own_micro, own_symbols, own_no_list, own_structures, own_template, own_no_read, own_none)
-
-module _ (o : Object) (service limit : ℕ) (old : List ℕ) (r : ℕ) (new : List ℕ) where
-  abbrev Refused : Status → Type 0
-  Refused s = Laid limit (capped service limit (fail service s)) old r new
-
-  abbrev Other : Type 0
-  Other = Laid limit (capped service limit (otherwise service (object_is o))) old r new
-
-  module _ (c i next : ℕ) (e : o ≡ Of c i next) where
-    pub other_router : c ≡ 0x02 → Refused not_supported → Other
-    other_router k h = rw (e, k) h
-
-    pub other_template : c ≡ 0x6C → Refused not_supported → Other
-    other_template k h = rw (e, k) h
-
-    pub other-class : c ≢ 0x02 → c ≢ 0x6C → Refused path_unknown → Other
-    other-class k m h = rw (e, ne_eqb c 0x02 k, ne_eqb c 0x6C m) h
-
-  pub other_none : o ≡ Nothing → Refused path_unknown → Other
-  other_none e h = rw e h
-
-pub ruleset other_refusals = (other_router, other_template, other-class, other_none)

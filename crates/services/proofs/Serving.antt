@@ -3,6 +3,7 @@
 use mathlib.Core.Path.{◌≡◌, refl, subst}
 use mathlib.Core.Bool.{Bool, true, false}
 use mathlib.Core.List.{List, []}
+use Rattle.std.specs.Prelude.{Option, None, Some, Result, Ok, Err}
 use mathlib.Core.Logic.{◌≢◌}
 use Prim.Native.Nat.{ℕ}
 use borrow.Author.Tests.{eq-eqb, ne_eqb}
@@ -23,14 +24,11 @@ use Rattle.cip.specs.declared.Status.{Status}
 use Rattle.model.specs.Tables.{target_of, Aimed}
 use Rattle.model.specs.declared.Target.{Target}
 use Rattle.resolve.specs.Answers.{Targets}
-use Rattle.resolve.specs.declared.Resolved.{Resolved}
-use Rattle.resolve.specs.declared.Resolved.TheVariants.{Found, Turned}
 use Rattle.resolve.proofs.Answering.{found_aimed}
 use Rattle.reads.specs.Reading.{fields_as}
 use Rattle.reads.specs.declared.ReadFields.{ReadFields}
-use Rattle.reads.specs.declared.ReadFields.TheVariants.{Of, Short}
 use Rattle.reads.proofs.Lengths.{read_any_lengths}
-use Rattle.writes.specs.Storing.{Stores}
+use Rattle.writes.specs.Storing.{Stores, status_said}
 use Rattle.writes.proofs.Lengths.{write_any_lengths, masked_any_lengths}
 use Rattle.services.specs.Answers.{Answers, OnPath}
 use Rattle.services.specs.Services.{on_found}
@@ -41,23 +39,23 @@ pub laid_answers : (limit : ℕ) (bytes old : List ℕ) (r : ℕ) (new memory : 
 laid_answers limit bytes old r new memory h = record { length_is = h.length_is; buffer_is = h.buffer_is; memory_is = refl }
 
 -- a read by its fields, as the code has them
-module _ (structures : List Row) (memory : List ℕ) (service : ℕ) (g : Target) (body : List ℕ) (limit : ℕ) (old : List ℕ) (r : ℕ) (new : List ℕ) (w : ReadFields)
-    (decoded : fields_as w ≡ read_fields service body) where
-  pub read_of : (elements offset : ℕ) → w ≡ Of elements offset
-      → Laid limit (read_at structures memory service (target_of g []) elements offset limit) old r new
+module _ (structures : List Row) (memory : List ℕ) (service : ℕ) (g : Target) (body : List ℕ) (limit : ℕ) (old : List ℕ) (r : ℕ) (new : List ℕ)
+    (w : Option ReadFields) (decoded : fields_as w ≡ read_fields service body) where
+  pub read_of : (f : ReadFields) → w ≡ Some f → Laid limit (read_at structures memory service (target_of g []) f.elements f.offset limit) old r new
       → Laid limit (read_reply structures memory service (target_of g []) body limit) old r new
   unfolding read_reply
-  read_of elements offset e h = rw (← decoded, e) h
+  read_of f e h = rw (← decoded, e) h
 
-  pub read_short : w ≡ Short → Laid limit (fail service too_short) old r new
+  pub read_short : w ≡ None → Laid limit (fail service too_short) old r new
       → Laid limit (read_reply structures memory service (target_of g []) body limit) old r new
   unfolding read_reply
   read_short e h = rw (← decoded, e) h
 
--- a write's answer, by its status
-stored_answers : (limit service : ℕ) (s : Stored) (old : List ℕ) (r : ℕ) (new before after : List ℕ) (status : Status)
-    → Stores s before status after → Laid limit (fail service (status_of status)) old r new → Answers limit (store_answer service s before) old r new after
-stored_answers limit service s old r new before after status k h = rw (k.answer_is service)
+-- a write's answer, by what it came to
+stored_answers : (limit service : ℕ) (s : Stored) (old : List ℕ) (r : ℕ) (new before after : List ℕ) (stored : Result (Unit {0}) Status) (status : Status)
+    → Stores s before stored after → status_of status ≡ status_said stored → Laid limit (fail service (status_of status)) old r new
+    → Answers limit (store_answer service s before) old r new after
+stored_answers limit service s old r new before after stored status k q h = rw (k.answer_is service, ← q)
     (laid_answers limit (fail service (status_of status)) old r new after h)
 
 module _ (structures : List Row) (memory : List ℕ) (service : ℕ) (g : Target) (body : List ℕ) (limit : ℕ) (old : List ℕ) (r : ℕ) (new : List ℕ) where
@@ -68,27 +66,24 @@ module _ (structures : List Row) (memory : List ℕ) (service : ℕ) (g : Target
     pub serve_read : b ≡ true → Laid limit (read_reply structures memory service (target_of g []) body limit) old r new → Served memory
     serve_read e h = rw (← is, e) (laid_answers limit _ old r new memory h)
 
-    module _ (e : b ≡ false) (status : Status) (after : List ℕ) (h : Laid limit (fail service (status_of status)) old r new) where
-      pub serve_masked : service ≡ 0x4E → Stores (masked_stored memory (target_of g []) body) memory status after → Served after
-      serve_masked k s = rw (← is, e, eq-eqb service 0x4E k) (stored_answers limit service _ old r new memory after status s h)
+    module _ (e : b ≡ false) (stored : Result (Unit {0}) Status) (status : Status) (said : status_of status ≡ status_said stored) (after : List ℕ)
+        (h : Laid limit (fail service (status_of status)) old r new) where
+      pub serve_masked : service ≡ 0x4E → Stores (masked_stored memory (target_of g []) body) memory stored after → Served after
+      serve_masked k s = rw (← is, e, eq-eqb service 0x4E k) (stored_answers limit service _ old r new memory after stored status s said h)
 
-      pub serve_written : service ≢ 0x4E → Stores (write_stored structures memory service (target_of g []) body) memory status after → Served after
-      serve_written k s = rw (← is, e, ne_eqb service 0x4E k) (stored_answers limit service _ old r new memory after status s h)
+      pub serve_written : service ≢ 0x4E → Stores (write_stored structures memory service (target_of g []) body) memory stored after → Served after
+      serve_written k s = rw (← is, e, ne_eqb service 0x4E k) (stored_answers limit service _ old r new memory after stored status s said h)
 
 pub ruleset serving = (serve_read, serve_masked, serve_written)
 
 -- ---- on a path
 
--- what a path comes to in these tables
-abbrev Aims : (tables : Tables) → Flags → (writes : Bool) (path : List ℕ) → Resolved → Type 0
-Aims t = Targets t.structures t.members t.programs t.tags t.names t.tag_names
-
 module _ (tables : Tables) (f : Flags) (memory : List ℕ) (service : ℕ) (path body : List ℕ) (limit : ℕ) (writes : Bool) (is : writes ≡ is_write service)
-    (resolved : Resolved) (target : Aims tables f writes path resolved) (old : List ℕ) (r : ℕ) (new after : List ℕ) where
+    (resolved : Result Target Status) (target : Targets tables f writes path resolved) (old : List ℕ) (r : ℕ) (new after : List ℕ) where
   abbrev Tagged : Type 0
   Tagged = OnPath path limit (λ l. tag_service tables f memory service l body limit) old r new after
 
-  pub tag-turned : (status : Status) → resolved ≡ Turned status → after ≡ memory → Laid limit (fail service (status_of status)) old r new → Tagged
+  pub tag-turned : (status : Status) → resolved ≡ Err status → after ≡ memory → Laid limit (fail service (status_of status)) old r new → Tagged
   unfolding tag_service
   tag-turned status e k h = record {
     is = λ l s.
@@ -96,7 +91,7 @@ module _ (tables : Tables) (f : Flags) (memory : List ℕ) (service : ℕ) (path
         rw (← is, t, k) (laid_answers limit _ old r new memory h);
   }
 
-  pub tag_found : (g : Target) → resolved ≡ Found g
+  pub tag_found : (g : Target) → resolved ≡ Ok g
       → Answers limit (on_found tables.structures memory service (target_of g []) body limit) old r new after → Tagged
   unfolding tag_service
   tag_found g e h = record {
@@ -115,5 +110,5 @@ module _ (tables : Tables) (f : Flags) (memory : List ℕ) (service : ℕ) (path
 
 module _ (tables : Tables) (path : List ℕ) (f : Flags) (writes : Bool) (memory : ℕ) (ok : valid tables memory ≡ true)
     (decodes : is_some (segments path) ≡ true) where
-  pub tag_aimed : (g : Target) (resolved : Resolved) → resolved ≡ Found g → Aims tables f writes path resolved → Aimed tables.structures memory g
-  tag_aimed g resolved e target = found_aimed tables path f writes g memory ok decodes (subst (Aims tables f writes path) e target)
+  pub tag_aimed : (g : Target) (resolved : Result Target Status) → resolved ≡ Ok g → Targets tables f writes path resolved → Aimed tables.structures memory g
+  tag_aimed g resolved e target = found_aimed tables path f writes g memory ok decodes (subst (Targets tables f writes path) e target)

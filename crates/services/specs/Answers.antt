@@ -1,6 +1,6 @@
 -- What a function that answers leaves, in the definition's terms.
 use Rattle.std.specs.Prelude.{◌≡◌, List, ℕ, length}
-use Rattle.std.proofs.Math.Option.{some}
+use Rattle.std.specs.Prelude.{Some}
 use Rattle.laws.specs.Put.{laid}
 use Rattle.definition.specs.Reply.{Answer, room}
 use Rattle.definition.specs.Segment.{Segment, segments}
@@ -13,4 +13,4 @@ pub record Answers (limit : ℕ) (a : Answer) (old : List ℕ) (r : ℕ) (new me
 
 -- the same of a path that is given by its bytes
 pub record OnPath (path : List ℕ) (limit : ℕ) (answer : List Segment → Answer) (old : List ℕ) (r : ℕ) (new memory : List ℕ) : Type 0 where
-  pub is : (l : List Segment) → segments path ≡ some l → Answers limit (answer l) old r new memory
+  pub is : (l : List Segment) → segments path ≡ Some l → Answers limit (answer l) old r new memory

@@ -1,14 +1,14 @@
 // Which service answers a request that is no envelope: items 9 to 20 of document 01, in their order.
 #![tactic(auto)]
 
-use cip::Status;
-use cip::codes::{ATTRIBUTE_LIST, ROUTER_CLASS, SYMBOL_CLASS, SYMBOL_PAGE, TEMPLATE_CLASS};
-use model::Flags;
-use path::Object;
+use cip::codes::{ATTRIBUTE_LIST, READ, ROUTER_CLASS, SYMBOL_CLASS, SYMBOL_PAGE, TEMPLATE_CLASS};
+use cip::{Status, replies};
+use model::Controller;
+use path::{Object, Request};
 
 pub mod targets;
 
-ghost use Rattle.std.specs.Prelude.{◌≡◌, true, ◌≤◌, length};
+ghost use Rattle.std.specs.Prelude.{◌≡◌, true, ◌≤◌, length, Option};
 ghost use Rattle.laws.specs.Pick.{is_some, both};
 ghost use Rattle.definition.specs.Reply.{room};
 ghost use Rattle.definition.specs.Segment.{segments};
@@ -26,145 +26,90 @@ pub enum Own {
     SymbolList(u32),
     StructureList(u32),
     Template(u32),
-    Nothing,
 }
 
 /// What an object serves itself; a Micro800 lists no attributes of symbols.
-fn own_service(o: Object, service: u8, micro800: bool) -> Own
+fn own_service(o: Option<Object>, service: u8, micro800: bool) -> Option<Own>
     ensures { result ≡ own_of o service micro800 }
 {
-    let Object::Of(class, instance, _) = o else {
-        return Own::Nothing;
-    };
-    if class == SYMBOL_CLASS {
-        if service == ATTRIBUTE_LIST {
-            if micro800 {
-                return Own::Nothing;
-            }
-            return Own::SymbolList(instance);
-        }
-        return Own::Nothing;
+    let o = o?;
+    match (o.class, service) {
+        (SYMBOL_CLASS, ATTRIBUTE_LIST) if !micro800 => Some(Own::SymbolList(o.instance)),
+        (TEMPLATE_CLASS, ATTRIBUTE_LIST) => Some(Own::StructureList(o.instance)),
+        (TEMPLATE_CLASS, READ) => Some(Own::Template(o.instance)),
+        _ => None,
     }
-    if class == TEMPLATE_CLASS {
-        if service == ATTRIBUTE_LIST {
-            return Own::StructureList(instance);
-        }
-        if service == cip::codes::READ {
-            return Own::Template(instance);
-        }
-        return Own::Nothing;
-    }
-    Own::Nothing
 }
 
 /// Item 19: what no service answers.
-fn refuse_other(o: Object, service: u8, limit: usize, buf: &mut [u8]) -> usize
+fn refuse_other(o: Option<Object>, service: u8, limit: usize, buf: &mut [u8]) -> usize
     requires { room limit ≤ length buf.old }
     ensures { Laid limit (capped service limit (otherwise service (object_is o))) buf.old result buf.new }
 {
-    let Object::Of(class, _, _) = o else {
-        return cip::replies::refuse(service, Status::PathUnknown, limit, buf);
+    let status = match o {
+        Some(o) if o.class == ROUTER_CLASS || o.class == TEMPLATE_CLASS => Status::NotSupported,
+        _ => Status::PathUnknown,
     };
-    if class == ROUTER_CLASS {
-        return cip::replies::refuse(service, Status::NotSupported, limit, buf);
-    }
-    if class == TEMPLATE_CLASS {
-        return cip::replies::refuse(service, Status::NotSupported, limit, buf);
-    }
-    cip::replies::refuse(service, Status::PathUnknown, limit, buf)
+    replies::refuse(service, status, limit, buf)
 }
 
 /// Items 14 to 18: a tag service on a tag path.
-fn is_tag_request(service: u8, path: &[u8]) -> bool
-    requires { is_some (segments path.now) ≡ true }
-    ensures { result ≡ both (is_tag_service service) (tag_path_from path.now 0) }
+fn is_tag_request(q: &Request) -> bool
+    requires { is_some (segments q.now.path.now) ≡ true }
+    ensures { result ≡ both (is_tag_service q.now.service) (tag_path_from q.now.path.now 0) }
 {
-    if targets::is_tag_service(service) {
-        return path::is_tag_path(path, 0);
-    }
-    false
+    targets::is_tag_service(q.service) && path::is_tag_path(q.path, 0)
 }
 
 /// Items 13 to 20, where no object's own service came first.
 fn by_service(
-    structures: &[[u32; 10]],
-    members: &[[u32; 9]],
-    programs: &[[u32; 2]],
-    tags: &[[u32; 12]],
-    others: &[[u32; 5]],
-    names: &[u8],
-    tag_names: &[u8],
-    templates: &[u8],
-    flags: Flags,
+    c: &Controller,
     memory: &mut [u8],
-    service: u8,
-    o: Object,
-    path: &[u8],
-    body: &[u8],
+    q: &Request,
+    o: Option<Object>,
     limit: usize,
     buf: &mut [u8],
 ) -> usize
-    requires { let t = tables_of structures.now members.now programs.now tags.now others.now names.now tag_names.now templates.now in
-        (is_some (segments path.now) ≡ true) × ObjectAt path.now 0 o × (valid t (length memory.old) ≡ true)
-        × (room limit ≤ length buf.old) }
-    ensures { let t = tables_of structures.now members.now programs.now tags.now
-        others.now names.now tag_names.now templates.now in
-        OnPath path.now limit (λ l. by_service t (flags_of flags) memory.old service l body.now limit)
+    requires decodes { is_some (segments q.now.path.now) ≡ true }
+    requires object { ObjectAt q.now.path.now 0 o }
+    requires judged { valid (tables_of c.now.tables) (length memory.old) ≡ true }
+    requires room { room limit ≤ length buf.old }
+    ensures { OnPath q.now.path.now limit
+        (λ l. by_service (tables_of c.now.tables) (flags_of c.now.flags) memory.old q.now.service l q.now.body.now limit)
         buf.old result buf.new memory.new }
 {
-    if service == SYMBOL_PAGE {
-        return listing::requests::list_symbols(
-            structures, programs, tags, others, names, tag_names, service, path, body, limit, buf,
-        );
+    if q.service == SYMBOL_PAGE {
+        return listing::requests::list_symbols(&c.tables, *q, limit, buf);
     }
-    if is_tag_request(service, path) {
-        return targets::tag_service(
-            structures, members, programs, tags, others, names, tag_names, templates, flags,
-            memory, service, path, body, limit, buf,
-        );
+    if is_tag_request(q) {
+        return targets::tag_service(c, memory, q, limit, buf);
     }
-    refuse_other(o, service, limit, buf)
+    refuse_other(o, q.service, limit, buf)
 }
 
 /// A request that is no envelope; returns the reply's length.
-pub fn plain(
-    structures: &[[u32; 10]],
-    members: &[[u32; 9]],
-    programs: &[[u32; 2]],
-    tags: &[[u32; 12]],
-    others: &[[u32; 5]],
-    names: &[u8],
-    tag_names: &[u8],
-    templates: &[u8],
-    flags: Flags,
-    memory: &mut [u8],
-    service: u8,
-    path: &[u8],
-    body: &[u8],
-    limit: usize,
-    buf: &mut [u8],
-) -> usize
-    requires { let t = tables_of structures.now members.now programs.now tags.now others.now names.now tag_names.now templates.now in
-        (is_some (segments path.now) ≡ true) × (valid t (length memory.old) ≡ true) × (room limit ≤ length buf.old) }
-    ensures { let t = tables_of structures.now members.now programs.now tags.now
-        others.now names.now tag_names.now templates.now in
-        OnPath path.now limit (λ l. plainly t (flags_of flags) memory.old service l body.now limit)
+pub fn plain(c: &Controller, memory: &mut [u8], q: &Request, limit: usize, buf: &mut [u8]) -> usize
+    requires decodes { is_some (segments q.now.path.now) ≡ true }
+    requires judged { valid (tables_of c.now.tables) (length memory.old) ≡ true }
+    requires room { room limit ≤ length buf.old }
+    ensures { OnPath q.now.path.now limit
+        (λ l. plainly (tables_of c.now.tables) (flags_of c.now.flags) memory.old q.now.service l q.now.body.now limit)
         buf.old result buf.new memory.new }
 {
-    let o = path::object_at(path, 0);
-    match own_service(o, service, flags.micro800) {
-        Own::SymbolList(id) => listing::attributes::symbol_attributes(
-            programs, tags, others, names, service, id, body, limit, buf,
-        ),
-        Own::StructureList(id) => {
-            listing::attributes::structure_attributes(structures, service, id, body, limit, buf)
+    let o = path::object_at(q.path, 0);
+    let Some(own) = own_service(o, q.service, c.flags.micro800) else {
+        return by_service(c, memory, q, o, limit, buf);
+    };
+    match own {
+        Own::SymbolList(id) => {
+            listing::attributes::symbol_attributes(&c.tables, q.service, id, q.body, limit, buf)
         }
-        Own::Template(id) => listing::templates::read_template(
-            structures, templates, memory, service, id, body, limit, buf,
-        ),
-        Own::Nothing => by_service(
-            structures, members, programs, tags, others, names, tag_names, templates, flags,
-            memory, service, o, path, body, limit, buf,
-        ),
+        Own::StructureList(id) => {
+            listing::attributes::structure_attributes(&c.tables, q.service, id, q.body, limit, buf)
+        }
+        Own::Template(id) => {
+            let t = &c.tables;
+            listing::templates::read_template(t, memory, q.service, id, q.body, limit, buf)
+        }
     }
 }

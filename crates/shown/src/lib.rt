@@ -1,181 +1,149 @@
 // Prints what is loaded: a line of counts, then a line for each tag and for each other symbol, its fields parted by tabs.
-// What is written is tested and not proved. No function asks anything of its caller: a row that is not there has no line.
+// What is written is tested and not proved. No function asks anything of its caller: a row that is not there has no name.
 #![tactic(auto)]
 
 mod words;
 
-use cip::numbers::wide;
-use model::columns;
-use std::io;
-use wording::{name, out};
+ghost use Rattle.std.specs.Prelude.{◌+◌, ◌<◌};
 
-/// A tab, and a number behind it.
-fn number(to: &impl Print, n: u32) -> io::Result<()> {
-    out::text(to, b"\t")?;
-    to.print(n)
+use model::columns::{
+    OTHER_ID, OTHER_NAME_START, OTHER_SCOPE, OTHER_TYPE, PROGRAM_NAME_START, STRUCTURE_NAME_START,
+    TAG_ACCESS, TAG_ID, TAG_LENGTH_1, TAG_LENGTH_2, TAG_LENGTH_3, TAG_NAME_START, TAG_OFFSET,
+    TAG_SCOPE, TAG_TYPE,
+};
+use model::lookup::part_of;
+use model::{Tables, types};
+use std::{fmt, io};
+use wording::name::Name;
+
+/// A row's name, as far as it stands in its store: two words of the row say where it starts and how long it is.
+fn name_of<'a, const N: usize>(row: &[u32; N], start: usize, store: &'a [u8]) -> Name<'a>
+    requires { start + 1 < N }
+{
+    Name(part_of(store, row[start], row[start + 1]))
 }
 
 /// `controller`, or `Program:` and the program's name.
-fn scope(to: &impl Print, scope: u32, programs: &[[u32; 2]], names: &[u8]) -> io::Result<()> {
-    if scope == 0 {
-        return out::text(to, b"controller");
+#[derive(Clone, Copy)]
+struct Scope<'a> {
+    number: u32,
+    tables: &'a Tables<'a>,
+}
+
+impl<'a> fmt::Display for Scope<'a> {
+    fn fmt<W: fmt::Write>(&self, f: &mut fmt::Formatter<W>) -> fmt::Result {
+        let Some(row) = self.number.checked_sub(1) else {
+            return f.write_str("controller");
+        };
+        f.write_str("Program:")?;
+        match self.tables.programs.get(row as usize) {
+            Some(row) => write!(f, "{}", name_of(row, PROGRAM_NAME_START, self.tables.names)),
+            None => Ok(()),
+        }
     }
-    out::text(to, b"Program:")?;
-    name::plain(to, names, name::of_program(programs, wide(scope - 1)))
 }
 
 /// The lengths of an array in brackets, nothing where it is none.
-fn lengths(to: &impl Print, a: u32, b: u32, c: u32) -> io::Result<()> {
-    if a == 0 {
-        return Ok(());
+#[derive(Clone, Copy)]
+struct Lengths([u32; 3]);
+
+impl fmt::Display for Lengths {
+    fn fmt<W: fmt::Write>(&self, f: &mut fmt::Formatter<W>) -> fmt::Result {
+        let [first, second, third] = self.0;
+        if first == 0 {
+            return Ok(());
+        }
+        write!(f, "[{first}")?;
+        for length in [second, third] {
+            if length != 0 {
+                write!(f, ",{length}")?;
+            }
+        }
+        f.write_str("]")
     }
-    out::text(to, b"[")?;
-    out::number(to, wide(a))?;
-    if b != 0 {
-        out::text(to, b",")?;
-        out::number(to, wide(b))?;
-    }
-    if c != 0 {
-        out::text(to, b",")?;
-        out::number(to, wide(c))?;
-    }
-    out::text(to, b"]")
 }
 
-/// An atomic type's name, or a structure's.
-fn type_of(to: &impl Print, ty: u32, structures: &[[u32; 10]], names: &[u8]) -> io::Result<()> {
-    if ty >= model::types::FIRST_STRUCTURE {
-        let row = wide(ty - model::types::FIRST_STRUCTURE);
-        return name::plain(to, names, name::of_structure(structures, row));
+/// An atomic type's name, or a structure's; the code of a type that has none.
+#[derive(Clone, Copy)]
+struct Type<'a> {
+    word: u32,
+    tables: &'a Tables<'a>,
+}
+
+impl<'a> fmt::Display for Type<'a> {
+    fn fmt<W: fmt::Write>(&self, f: &mut fmt::Formatter<W>) -> fmt::Result {
+        let (word, t) = (self.word, self.tables);
+        if types::is_structure(word) {
+            return match t.structures.get(types::index_of(word)) {
+                Some(row) => write!(f, "{}", name_of(row, STRUCTURE_NAME_START, t.names)),
+                None => Ok(()),
+            };
+        }
+        match words::atomic(word) {
+            Some(name) => f.write_str(name),
+            None => write!(f, "0x{word:02x}"),
+        }
     }
-    words::atomic(to, ty)
 }
 
 /// tag, scope, name, type, lengths, access, ID, offset.
-fn tag(
-    to: &impl Print,
-    tags: &[[u32; 12]],
-    row: usize,
-    structures: &[[u32; 10]],
-    programs: &[[u32; 2]],
-    names: &[u8],
-    tag_names: &[u8],
-) -> io::Result<()> {
-    if row >= tags.len() {
-        return Ok(());
-    }
-    let t = tags[row];
-    out::text(to, b"tag\t")?;
-    scope(to, t[columns::TAG_SCOPE], programs, names)?;
-    out::text(to, b"\t")?;
-    name::plain(to, tag_names, name::of_tag(tags, row))?;
-    out::text(to, b"\t")?;
-    type_of(to, t[columns::TAG_TYPE], structures, names)?;
-    out::text(to, b"\t")?;
-    lengths(
-        to,
-        t[columns::TAG_LENGTH_1],
-        t[columns::TAG_LENGTH_2],
-        t[columns::TAG_LENGTH_3],
-    )?;
-    out::text(to, b"\t")?;
-    words::access(to, t[columns::TAG_ACCESS])?;
-    number(to, t[columns::TAG_ID])?;
-    number(to, t[columns::TAG_OFFSET])?;
-    out::text(to, b"\n")
+fn tag(to: &impl Print, row: &[u32; 12], t: &Tables) -> io::Result<()> {
+    let scope = Scope {
+        number: row[TAG_SCOPE],
+        tables: &*t,
+    };
+    let name = name_of(row, TAG_NAME_START, t.tag_names);
+    let ty = Type {
+        word: row[TAG_TYPE],
+        tables: &*t,
+    };
+    let lengths = Lengths([row[TAG_LENGTH_1], row[TAG_LENGTH_2], row[TAG_LENGTH_3]]);
+    let access = words::access(row[TAG_ACCESS]);
+    let (id, offset) = (row[TAG_ID], row[TAG_OFFSET]);
+    println!(to; "tag\t{scope}\t{name}\t{ty}\t{lengths}\t{access}\t{id}\t{offset}")
 }
 
 /// other, scope, name, symbol type, and as a tag has them lengths and access, which are empty, and ID.
-fn other(
-    to: &impl Print,
-    others: &[[u32; 5]],
-    row: usize,
-    programs: &[[u32; 2]],
-    names: &[u8],
-) -> io::Result<()> {
-    if row >= others.len() {
-        return Ok(());
-    }
-    let t = others[row];
-    out::text(to, b"other\t")?;
-    scope(to, t[columns::OTHER_SCOPE], programs, names)?;
-    out::text(to, b"\t")?;
-    name::plain(to, names, name::of_other(others, row))?;
-    out::text(to, b"\t0x")?;
-    let ty = t[columns::OTHER_TYPE];
-    print!(to; "{ty:04x}")?;
-    out::text(to, b"\t\t")?;
-    number(to, t[columns::OTHER_ID])?;
-    out::text(to, b"\t\n")
-}
-
-/// A word of the first line.
-fn count(to: &impl Print, what: &[u8], n: usize) -> io::Result<()> {
-    out::text(to, what)?;
-    out::number(to, n)
+fn other(to: &impl Print, row: &[u32; 5], t: &Tables) -> io::Result<()> {
+    let scope = Scope {
+        number: row[OTHER_SCOPE],
+        tables: &*t,
+    };
+    let name = name_of(row, OTHER_NAME_START, t.names);
+    let (ty, id) = (row[OTHER_TYPE], row[OTHER_ID]);
+    println!(to; "other\t{scope}\t{name}\t0x{ty:04x}\t\t\t{id}\t")
 }
 
 /// The rows of each table and the bytes of tag memory.
-fn counts(
-    to: &impl Print,
-    structures: usize,
-    members: usize,
-    programs: usize,
-    tags: usize,
-    others: usize,
-    memory: usize,
-) -> io::Result<()> {
-    count(to, b"structures=", structures)?;
-    count(to, b"\tmembers=", members)?;
-    count(to, b"\tprograms=", programs)?;
-    count(to, b"\ttags=", tags)?;
-    count(to, b"\tothers=", others)?;
-    count(to, b"\tmemory=", memory)?;
-    out::text(to, b"\n")
+fn counts(to: &impl Print, t: &Tables, memory: &[u8]) -> io::Result<()> {
+    println!(to;
+        "structures={}\tmembers={}\tprograms={}\ttags={}\tothers={}\tmemory={}",
+        t.structures.len(),
+        t.members.len(),
+        t.programs.len(),
+        t.tags.len(),
+        t.others.len(),
+        memory.len()
+    )
 }
 
-fn all_tags(
-    to: &impl Print,
-    tags: &[[u32; 12]],
-    structures: &[[u32; 10]],
-    programs: &[[u32; 2]],
-    names: &[u8],
-    tag_names: &[u8],
-) -> io::Result<()> {
-    let mut row = 0;
-    while row < tags.len() {
-        tag(to, tags, row, structures, programs, names, tag_names)?;
-        row += 1;
+fn tags(to: &impl Print, t: &Tables) -> io::Result<()> {
+    for row in t.tags {
+        tag(to, row, t)?;
+    }
+    Ok(())
+}
+
+fn others(to: &impl Print, t: &Tables) -> io::Result<()> {
+    for row in t.others {
+        other(to, row, t)?;
     }
     Ok(())
 }
 
 /// All that is loaded, to a stream.
-pub fn show(
-    to: &impl Print,
-    structures: &[[u32; 10]],
-    members: &[[u32; 9]],
-    programs: &[[u32; 2]],
-    tags: &[[u32; 12]],
-    others: &[[u32; 5]],
-    names: &[u8],
-    tag_names: &[u8],
-    memory: &[u8],
-) -> io::Result<()> {
-    counts(
-        to,
-        structures.len(),
-        members.len(),
-        programs.len(),
-        tags.len(),
-        others.len(),
-        memory.len(),
-    )?;
-    all_tags(to, tags, structures, programs, names, tag_names)?;
-    let mut row = 0;
-    while row < others.len() {
-        other(to, others, row, programs, names)?;
-        row += 1;
-    }
-    Ok(())
+pub fn show(to: &impl Print, t: &Tables, memory: &[u8]) -> io::Result<()> {
+    counts(to, t, memory)?;
+    tags(to, t)?;
+    others(to, t)
 }

@@ -1,6 +1,7 @@
 // The pallet bench of document 01, served where no file is given: controller scope, access 0, multi-service and instance IDs on.
 use crate::session;
 use input::options::Options;
+use model::{Controller, Tables};
 use std::io;
 use std::io::Read;
 
@@ -14,29 +15,19 @@ pub fn serve(
     err: &impl Print,
     o: Options,
 ) -> io::Result<()> {
-    let structures = pallet::STRUCTURES;
-    let members = pallet::MEMBERS;
-    let programs = [[0u32; 2]; 0];
-    let tags = pallet::TAGS;
-    let others = [[0u32; 5]; 0];
-    let names = pallet::NAMES;
-    let tag_names = pallet::TAG_NAMES;
-    let templates = pallet::TEMPLATES;
+    let c = Controller {
+        tables: Tables {
+            structures: &pallet::STRUCTURES,
+            members: &pallet::MEMBERS,
+            programs: &[],
+            tags: &pallet::TAGS,
+            others: &[],
+            names: &pallet::NAMES,
+            tag_names: &pallet::TAG_NAMES,
+            templates: &pallet::TEMPLATES,
+        },
+        flags: pallet::FLAGS,
+    };
     let mut memory = MEMORY;
-    session::open(
-        from,
-        to,
-        err,
-        &structures,
-        &members,
-        &programs,
-        &tags,
-        &others,
-        &names,
-        &tag_names,
-        &templates,
-        pallet::FLAGS,
-        &mut memory,
-        o,
-    )
+    session::open(from, to, err, &c, &mut memory, o)
 }

@@ -1,15 +1,14 @@
 // A table image (IMAGE.md): a head with the counts, the rows, the stores and the tag memory.
-ghost use Rattle.std.specs.Prelude.{◌≡◌, ◌+◌, ◌%◌, ◌≤◌, true, false, length, ◌==◌, IfOk};
+ghost use Rattle.std.specs.Prelude.{◌≡◌, ◌+◌, ◌%◌, ◌≤◌, length, ◌==◌, IfOk};
 ghost use Rattle.definition.specs.Bytes.{u32_at};
 ghost use Rattle.simulator.specs.Images.{HeadIn, FlagsIn, SmallHead, rows_size, stores_size, image_size};
 
 use crate::session;
-use console::say;
 use input::image_rows;
 use input::options::Options;
-use model::Flags;
-use std::io;
+use model::{Controller, Flags, Tables};
 use std::io::Read;
+use std::{fmt, io};
 
 /// The flags, the rows of each table and the bytes of each store.
 #[derive(Clone, Copy)]
@@ -26,20 +25,27 @@ pub struct Head {
     pub memory: usize,
 }
 
-/// Whether bytes begin with the magic.
-fn has_magic(image: &[u8]) -> bool {
-    let magic = b"CIPLINK1";
-    if image.len() < 8 {
-        return false;
-    }
-    let mut i = 0;
-    while i < 8 {
-        if image[i] != magic[i] {
-            return false;
+/// Why an image is not taken.
+#[derive(Clone, Copy)]
+enum Fault {
+    NoMagic,
+    NoHead,
+    /// A count, of what, and the most that a controller takes.
+    Over(usize, &'static str, usize),
+    Short,
+    Long,
+}
+
+impl fmt::Display for Fault {
+    fn fmt<W: fmt::Write>(&self, f: &mut fmt::Formatter<W>) -> fmt::Result {
+        match *self {
+            Fault::NoMagic => f.write_str("it does not begin with CIPLINK1"),
+            Fault::NoHead => f.write_str("it is shorter than its head of 48 bytes"),
+            Fault::Over(n, what, most) => write!(f, "{n} {what}, at most {most}"),
+            Fault::Short => f.write_str("it is shorter than its counts ask"),
+            Fault::Long => f.write_str("it has bytes behind its tag memory"),
         }
-        i += 1;
     }
-    true
 }
 
 fn count(image: &[u8], at: usize) -> usize
@@ -49,85 +55,92 @@ fn count(image: &[u8], at: usize) -> usize
     cip::u32_at(image, at) as usize
 }
 
-fn read_head(image: &[u8]) -> Head
-    requires { 48 ≤ length image.now }
-    ensures { HeadIn image.now result }
-{
-    Head {
-        flags: cip::u32_at(image, 8),
-        structures: count(image, 12),
-        members: count(image, 16),
-        programs: count(image, 20),
-        tags: count(image, 24),
-        others: count(image, 28),
-        names: count(image, 32),
-        tag_names: count(image, 36),
-        templates: count(image, 40),
-        memory: count(image, 44),
-    }
-}
-
-/// Whether a count is above what a controller takes; if so, it is said.
-fn over(err: &impl Print, n: usize, what: &[u8], most: usize) -> io::Result<bool>
-    ensures { IfOk result (λ is_over. is_over ≡ false → n ≤ most) }
+/// A count is no more than what a controller takes.
+fn at_most(n: usize, what: &'static str, most: usize) -> Result<(), Fault>
+    ensures { IfOk result (λ _. n ≤ most) }
 {
     if n <= most {
-        return Ok(false);
+        Ok(())
+    } else {
+        Err(Fault::Over(n, what, most))
     }
-    say::fault(err, b"table image: ")?;
-    say::fault_number(err, n as u64)?;
-    say::fault(err, b" ")?;
-    say::fault(err, what)?;
-    say::fault(err, b", at most ")?;
-    say::fault_number(err, most as u64)?;
-    say::fault(err, b"\n")?;
-    Ok(true)
 }
 
-/// Whether no count is above what T1 allows.
-fn few(err: &impl Print, h: Head) -> io::Result<bool>
-    ensures { IfOk result (λ is_few. is_few ≡ true → SmallHead h) }
-{
-    if over(err, h.structures, b"structures", 64)? {
-        return Ok(false);
+impl Head {
+    fn of(image: &[u8]) -> Head
+        requires { 48 ≤ length image.now }
+        ensures { HeadIn image.now result }
+    {
+        Head {
+            flags: cip::u32_at(image, 8),
+            structures: count(image, 12),
+            members: count(image, 16),
+            programs: count(image, 20),
+            tags: count(image, 24),
+            others: count(image, 28),
+            names: count(image, 32),
+            tag_names: count(image, 36),
+            templates: count(image, 40),
+            memory: count(image, 44),
+        }
     }
-    if over(err, h.members, b"members", 512)? {
-        return Ok(false);
+
+    /// No count is above what T1 allows.
+    fn few(self) -> Result<(), Fault>
+        ensures { IfOk result (λ _. SmallHead self) }
+    {
+        at_most(self.structures, "structures", 64)?;
+        at_most(self.members, "members", 512)?;
+        at_most(self.programs, "programs", 16)?;
+        at_most(self.tags, "tags", 1024)?;
+        at_most(self.others, "other symbols", 64)?;
+        at_most(self.names, "bytes of names", 26752)?;
+        at_most(self.tag_names, "bytes of tag names", 40960)?;
+        at_most(self.templates, "bytes of templates", 65536)?;
+        at_most(self.memory, "bytes of tag memory", 65536)
     }
-    if over(err, h.programs, b"programs", 16)? {
-        return Ok(false);
+
+    /// The bytes of the head and the rows.
+    fn rows_size(self) -> usize
+        requires { SmallHead self }
+        ensures { result ≡ rows_size self }
+    {
+        48 + 40 * self.structures
+            + 36 * self.members
+            + 8 * self.programs
+            + 48 * self.tags
+            + 20 * self.others
     }
-    if over(err, h.tags, b"tags", 1024)? {
-        return Ok(false);
+
+    fn size(self) -> usize
+        requires { SmallHead self }
+        ensures { result ≡ image_size self }
+    {
+        self.rows_size() + self.names + self.tag_names + self.templates + self.memory
     }
-    if over(err, h.others, b"other symbols", 64)? {
-        return Ok(false);
-    }
-    if over(err, h.names, b"bytes of names", 26752)? {
-        return Ok(false);
-    }
-    if over(err, h.tag_names, b"bytes of tag names", 40960)? {
-        return Ok(false);
-    }
-    if over(err, h.templates, b"bytes of templates", 65536)? {
-        return Ok(false);
-    }
-    Ok(!over(err, h.memory, b"bytes of tag memory", 65536)?)
 }
 
-/// The bytes of the head and the rows.
-fn rows_size(h: Head) -> usize
-    requires { SmallHead h }
-    ensures { result ≡ rows_size h }
+/// The head of a whole image, whose counts a controller takes.
+fn head_of(image: &[u8]) -> Result<Head, Fault>
+    ensures head { IfOk result (λ h. HeadIn image.now h) }
+    ensures small { IfOk result (λ h. SmallHead h) }
+    ensures whole { IfOk result (λ h. length image.now ≡ image_size h) }
 {
-    48 + 40 * h.structures + 36 * h.members + 8 * h.programs + 48 * h.tags + 20 * h.others
-}
-
-fn size(h: Head) -> usize
-    requires { SmallHead h }
-    ensures { result ≡ image_size h }
-{
-    rows_size(h) + h.names + h.tag_names + h.templates + h.memory
+    if !image.starts_with(b"CIPLINK1") {
+        return Err(Fault::NoMagic);
+    }
+    if image.len() < 48 {
+        return Err(Fault::NoHead);
+    }
+    let h = Head::of(image);
+    h.few()?;
+    if image.len() < h.size() {
+        return Err(Fault::Short);
+    }
+    if image.len() > h.size() {
+        return Err(Fault::Long);
+    }
+    Ok(h)
 }
 
 fn is_odd(word: u32) -> bool
@@ -147,85 +160,60 @@ fn flags_of(word: u32) -> Flags
     }
 }
 
-/// The stores and the tag memory stand behind the rows; with them the session is opened.
+/// The session over a controller and tag memory that begins as an image has it.
 fn open_with(
     from: &mut impl Read,
     to: &impl Print,
     err: &impl Print,
-    h: Head,
-    stores: &[u8],
-    structures: &[[u32; 10]],
-    members: &[[u32; 9]],
-    programs: &[[u32; 2]],
-    tags: &[[u32; 12]],
-    others: &[[u32; 5]],
+    c: &Controller,
+    image: &[u8],
     o: Options,
 ) -> io::Result<()>
-    requires { (SmallHead h) × (length stores.now ≡ stores_size h) }
+    requires { length image.now ≤ 65536 }
 {
-    let a = h.names;
-    let b = a + h.tag_names;
-    let c = b + h.templates;
-    let size = h.memory;
     let mut memory = [0u8; 65536];
-    cip::copy_into(&mut memory, 0, &stores[c..]);
-    session::open(
-        from,
-        to,
-        err,
-        structures,
-        members,
-        programs,
-        tags,
-        others,
-        &stores[..a],
-        &stores[a..b],
-        &stores[b..c],
-        flags_of(h.flags),
-        &mut memory[..size],
-        o,
-    )
+    let memory = &mut memory[..image.len()];
+    memory.copy_from_slice(image);
+    session::open(from, to, err, c, memory, o)
 }
 
-/// The tables of a whole image.
+/// The controller of a whole image: the stores and the tag memory stand behind the rows.
 fn load(
     from: &mut impl Read,
     to: &impl Print,
     err: &impl Print,
     h: Head,
     image: &[u8],
-    options: Options,
+    o: Options,
 ) -> io::Result<()>
     requires { (SmallHead h) × (length image.now ≡ image_size h) }
 {
-    let n = h.structures;
-    let structures = image_rows::structures(image, 48, n);
-    let at = 48 + 40 * n;
-    let m = h.members;
-    let members = image_rows::members(image, at, m);
-    let at = at + 36 * m;
-    let p = h.programs;
-    let programs = image_rows::programs(image, at, p);
-    let at = at + 8 * p;
-    let t = h.tags;
-    let tags = image_rows::tags(image, at, t);
-    let at = at + 48 * t;
-    let o = h.others;
-    let others = image_rows::others(image, at, o);
-    let at = at + 20 * o;
-    open_with(
-        from,
-        to,
-        err,
-        h,
-        &image[at..],
-        &structures[..n],
-        &members[..m],
-        &programs[..p],
-        &tags[..t],
-        &others[..o],
-        options,
-    )
+    let structures = image_rows::rows::<10, 64>(image, 48, h.structures);
+    let at = 48 + 40 * h.structures;
+    let members = image_rows::rows::<9, 512>(image, at, h.members);
+    let at = at + 36 * h.members;
+    let programs = image_rows::rows::<2, 16>(image, at, h.programs);
+    let at = at + 8 * h.programs;
+    let tags = image_rows::rows::<12, 1024>(image, at, h.tags);
+    let at = at + 48 * h.tags;
+    let others = image_rows::rows::<5, 64>(image, at, h.others);
+    let (names, rest) = image[h.rows_size()..].split_at(h.names);
+    let (tag_names, rest) = rest.split_at(h.tag_names);
+    let (templates, memory) = rest.split_at(h.templates);
+    let c = Controller {
+        tables: Tables {
+            structures: &structures[..h.structures],
+            members: &members[..h.members],
+            programs: &programs[..h.programs],
+            tags: &tags[..h.tags],
+            others: &others[..h.others],
+            names,
+            tag_names,
+            templates,
+        },
+        flags: flags_of(h.flags),
+    };
+    open_with(from, to, err, &c, memory, o)
 }
 
 /// Serves the tables of an image as the options ask, or says what is wrong with it.
@@ -236,25 +224,8 @@ pub fn serve(
     image: &[u8],
     o: Options,
 ) -> io::Result<()> {
-    if !has_magic(image) {
-        return say::fault(err, b"table image: it does not begin with CIPLINK1\n");
+    match head_of(image) {
+        Ok(h) => load(from, to, err, h, image, o),
+        Err(fault) => println!(err; "table image: {fault}"),
     }
-    if image.len() < 48 {
-        return say::fault(
-            err,
-            b"table image: it is shorter than its head of 48 bytes\n",
-        );
-    }
-    let h = read_head(image);
-    if !few(err, h)? {
-        return Ok(());
-    }
-    let n = size(h);
-    if image.len() < n {
-        return say::fault(err, b"table image: it is shorter than its counts ask\n");
-    }
-    if image.len() > n {
-        return say::fault(err, b"table image: it has bytes behind its tag memory\n");
-    }
-    load(from, to, err, h, image, o)
 }

@@ -9,8 +9,7 @@ mod help;
 mod image;
 mod session;
 
-use console::{join, lines, say};
-use input::options;
+use console::{join, lines};
 use input::options::{Argument, Options};
 use std::alloc::Global;
 use std::env::FillError;
@@ -36,13 +35,11 @@ fn read_file(rt: &impl Files, name: &str, image: &mut [u8]) -> io::Result<usize>
 /// Says what failed, and the system's words for it, without the number that stands behind them.
 fn fail(err: &impl Print, alloc: Global, name: &[u8], e: io::Error) -> io::Result<()> {
     let said = e.to_string(alloc)?;
-    say::fault(err, name)?;
-    say::fault(err, b": ")?;
+    err.write_all(name)?;
     match said.as_str().split_once(" (os error ") {
-        Some((words, _)) => say::fault(err, words.as_bytes())?,
-        None => say::fault(err, said.as_bytes())?,
+        Some((words, _)) => println!(err; ": {words}"),
+        None => println!(err; ": {}", said.as_str()),
     }
-    say::fault(err, b"\n")
 }
 
 fn serve_file(
@@ -54,8 +51,8 @@ fn serve_file(
     o: Options,
 ) -> io::Result<()> {
     let Ok(path) = std::str::from_utf8(name) else {
-        say::fault(err, name)?;
-        return say::fault(err, b": the name of a file has to be UTF-8\n");
+        err.write_all(name)?;
+        return println!(err; ": the name of a file has to be UTF-8");
     };
     let mut file = [0u8; MOST];
     match read_file(rt, path, &mut file) {
@@ -79,58 +76,37 @@ fn arg_count(rt: &impl Env) -> usize {
 fn word_at(rt: &impl Env, i: usize) -> Argument {
     let mut text = [0u8; LONGEST];
     match rt.arg(i, &mut text) {
-        Ok(n) => options::kind_of(&text[..n], false),
-        Err(_) => options::kind_of(b"", true),
+        Ok(n) => Argument::of(Some(&text[..n])),
+        Err(_) => Argument::of(None),
     }
 }
 
 /// Says an argument behind what is wrong with it.
-fn blame(rt: &impl Env, err: &impl Print, what: &[u8], i: usize) -> io::Result<()> {
+fn blame(rt: &impl Env, err: &impl Print, what: &str, i: usize) -> io::Result<()> {
     let mut text = [0u8; LONGEST];
-    say::fault(err, what)?;
+    print!(err; "{what} `")?;
     if let Ok(n) = rt.arg(i, &mut text) {
-        say::fault(err, &text[..n])?;
+        err.write_all(&text[..n])?;
     }
-    say::fault(err, b"`; --help says what is taken\n")
+    println!(err; "`; --help says what is taken")
 }
 
 /// Says why argument i is not taken.
 fn complain(rt: &impl Env, err: &impl Print, i: usize) -> io::Result<()> {
     match word_at(rt, i) {
-        Argument::TooLong => {
-            say::fault(err, b"argument ")?;
-            say::fault_number(err, i as u64)?;
-            say::fault(err, b" is longer than 4096 bytes\n")
-        }
-        Argument::Unknown => blame(rt, err, b"unknown option `", i),
-        _ => blame(rt, err, b"extra argument `", i),
+        Argument::TooLong => println!(err; "argument {i} is longer than {LONGEST} bytes"),
+        Argument::Unknown => blame(rt, err, "unknown option", i),
+        _ => blame(rt, err, "extra argument", i),
     }
 }
 
 /// What all arguments ask for.
 fn asked(rt: &impl Env) -> Options {
-    let n = arg_count(rt);
-    let mut o = options::none();
-    let mut i = 1;
-    while i < n {
-        o = options::taken(o, word_at(rt, i), i);
-        i += 1;
+    let mut o = Options::none();
+    for i in 1..arg_count(rt) {
+        o = o.taken(word_at(rt, i), i);
     }
     o
-}
-
-/// Joins rows of masked writes; no controller answers, so no table image is taken.
-fn join_lines(
-    rt: &impl Env,
-    from: &mut impl Read,
-    to: &impl Print,
-    err: &impl Print,
-    o: Options,
-) -> io::Result<()> {
-    if o.file != 0 {
-        return complain(rt, err, o.file);
-    }
-    join::start(from, to, err)
 }
 
 /// Serves the tables in the file that argument i names.
@@ -139,12 +115,13 @@ fn serve_named(
     from: &mut impl Read,
     to: &impl Print,
     err: &impl Print,
+    i: usize,
     o: Options,
 ) -> io::Result<()> {
     let mut name = [0u8; LONGEST];
-    match rt.arg(o.file, &mut name) {
+    match rt.arg(i, &mut name) {
         Ok(n) => serve_file(rt, from, to, err, &name[..n], o),
-        Err(_) => complain(rt, err, o.file),
+        Err(_) => complain(rt, err, i),
     }
 }
 
@@ -153,17 +130,17 @@ fn main(rt: HostRuntime) -> io::Result<()> {
     let to = rt.stdout();
     let err = rt.stderr();
     let o = asked(&rt);
-    if o.wrong != 0 {
-        return complain(&rt, &err, o.wrong);
+    if let Some(i) = o.wrong {
+        return complain(&rt, &err, i);
     }
     if o.help {
         return help::show(&to);
     }
-    if o.join {
-        return join_lines(&rt, &mut from, &to, &err, o);
+    match o.file {
+        // no controller answers, so no table image is taken
+        Some(i) if o.join => complain(&rt, &err, i),
+        None if o.join => join::start(&mut from, &to, &err),
+        Some(i) => serve_named(&rt, &mut from, &to, &err, i, o),
+        None => bench::serve(&mut from, &to, &err, o),
     }
-    if o.file == 0 {
-        return bench::serve(&mut from, &to, &err, o);
-    }
-    serve_named(&rt, &mut from, &to, &err, o)
 }

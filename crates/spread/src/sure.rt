@@ -1,243 +1,140 @@
 // Whether each two symbols pass the tests of two rows, by sorting: names by a number of each, IDs, and bytes.
 // Where they seem not to, a symbol is named that is worth comparing with each behind it: nothing is proved of which.
-ghost use Rattle.std.specs.Prelude.{◌≡◌, true, ◌+◌, ◌*◌, ◌%◌, ◌≤◌, ◌<◌, length, get_or, []};
+ghost use Rattle.std.specs.Prelude.{◌≡◌, true, ◌+◌, ◌≤◌, ◌<◌, IsOk, length, get_or, []};
 ghost use Rattle.laws.specs.Tests.{every, pairs};
-ghost use Rattle.definition.specs.Names.{lower};
-ghost use Rattle.definition.specs.Tables.{tag_offset};
-ghost use Rattle.definition.specs.Valid.{tag_names_differ, other_names_differ, ids_differ, end_in, apart};
-ghost use Rattle.spread.specs.Keys.{KeysFilled, mixed, name_key, tag_key, other_key, tag_first, tag_last, other_first, id_key, id_last, of_symbol, symbols_judged};
+ghost use Rattle.definition.specs.Valid.{tag_names_differ, other_names_differ, ids_differ, apart};
+ghost use Rattle.model.specs.Tables.{tables_of};
+ghost use Rattle.spread.specs.Keys.{name_key, symbol_key, tag_span, other_span, id_span, byte_span, of_symbol, symbols_judged};
 
-use cip::numbers;
-use model::columns::{
-    OTHER_ID, OTHER_NAME_LENGTH, OTHER_NAME_START, OTHER_SCOPE, TAG_ID, TAG_NAME_LENGTH,
-    TAG_NAME_START, TAG_OFFSET, TAG_SCOPE,
-};
+use crate::{MOST_OTHERS, MOST_TAGS, Span, Suspect, spread_by};
+use model::columns::{SYMBOL_ID, SYMBOL_NAME_LENGTH, SYMBOL_NAME_START, SYMBOL_SCOPE, TAG_OFFSET};
+use model::{Tables, lookup};
 use rows::row;
 
 /// Below this many tags comparing each two takes less time than sorting.
 const FEW: usize = 40;
 
-fn lowered(b: u8) -> usize
-    ensures { (result ≡ lower b) × (result < 288) }
-{
-    let n = b as usize;
-    if n < 0x41 {
-        return n;
-    }
-    if n < 0x5B {
-        return n + 0x20;
-    }
-    n
-}
-
-fn mixed(h: usize, b: u8) -> usize
-    requires { h < 140737488355328 }
-    ensures { (result ≡ (h * 65599 + lower b) % 140737488355328) × (result < 140737488355328) }
-{
-    (h * 65599 + lowered(b)) % 0x8000_0000_0000
-}
-
 /// A number of a scope and a name, the same for names that agree.
+#[tactic(auto, unfolding(crate::specs::Keys::name_key))]
 fn name_key(scope: u32, name: &[u8]) -> usize
-    ensures { (result ≡ name_key scope name.now) × (result < 140737488355328) }
+    ensures { result ≡ name_key scope name.now }
 {
-    let mut h = numbers::wide(scope);
-    let mut i = 0;
-    while i < name.len() {
-        h = mixed(h, name[i]);
-        i += 1;
-    }
-    h
+    name.iter().fold(scope as usize, |h, b| {
+        h.wrapping_mul(65599)
+            .wrapping_add(b.to_ascii_lowercase() as usize)
+    })
 }
 
-fn tag_key(row: &[u32; 12], tag_names: &[u8]) -> usize
-    ensures { (result ≡ tag_key tag_names.now row.now) × (result < 140737488355328) }
+/// That of a tag or another symbol, by the store that has its name.
+fn symbol_key<const N: usize>(row: &[u32; N], names: &[u8]) -> usize
+    requires { 3 < N }
+    ensures { result ≡ symbol_key names.now row.now }
 {
-    name_key(
-        row[TAG_SCOPE],
-        model::lookup::part_of(tag_names, row[TAG_NAME_START], row[TAG_NAME_LENGTH]),
-    )
+    let name = lookup::part_of(names, row[SYMBOL_NAME_START], row[SYMBOL_NAME_LENGTH]);
+    name_key(row[SYMBOL_SCOPE], name) % 0x8000_0000_0000
 }
 
-fn other_key(row: &[u32; 5], names: &[u8]) -> usize
-    ensures { (result ≡ other_key names.now row.now) × (result < 140737488355328) }
+/// A tag keeps its number's two places from every symbol.
+fn tag_span(row: &[u32; 12], tag_names: &[u8]) -> Span
+    ensures { result ≡ tag_span tag_names.now row.now }
 {
-    name_key(
-        row[OTHER_SCOPE],
-        model::lookup::part_of(names, row[OTHER_NAME_START], row[OTHER_NAME_LENGTH]),
-    )
-}
-
-/// Of a tag its number's two places; of another symbol the point between them.
-fn name_span(
-    tags: &[[u32; 12]],
-    others: &[[u32; 5]],
-    tag_names: &[u8],
-    names: &[u8],
-    k: usize,
-) -> [usize; 2]
-    requires { k < length tags.now + length others.now }
-    ensures { (get_or result 0 0 ≡ of_symbol (tag_first tag_names.now) (other_first names.now) tags.now
-        others.now k) × (get_or result 1 0 ≡ of_symbol (tag_last tag_names.now) (other_first names.now) tags.now
-        others.now k) }
-{
-    if k < tags.len() {
-        let h = tag_key(&tags[k], tag_names);
-        return [2 * h, 2 * h + 2];
-    }
-    let j = k - tags.len();
-    let h = other_key(&others[j], names);
-    [2 * h + 1, 2 * h + 1]
-}
-
-/// A number of a scope and an ID, and the next.
-fn id_places(scope: u32, id: u32) -> [usize; 2]
-    ensures { (get_or result 0 0 ≡ id * 32 + scope % 32) × (get_or result 1 0 ≡ id * 32 + scope % 32 + 1) }
-{
-    let k = numbers::wide(id) * 32 + numbers::wide(scope) % 32;
-    [k, k + 1]
-}
-
-fn id_span(tags: &[[u32; 12]], others: &[[u32; 5]], k: usize) -> [usize; 2]
-    requires { k < length tags.now + length others.now }
-    ensures { (get_or result 0 0 ≡ of_symbol id_key id_key tags.now others.now k)
-        × (get_or result 1 0 ≡ of_symbol id_last id_last tags.now others.now k) }
-{
-    if k < tags.len() {
-        return id_places(tags[k][TAG_SCOPE], tags[k][TAG_ID]);
-    }
-    let j = k - tags.len();
-    id_places(others[j][OTHER_SCOPE], others[j][OTHER_ID])
-}
-
-fn byte_span(row: &[u32; 12], structures: &[[u32; 10]]) -> [usize; 2]
-    ensures { (get_or result 0 0 ≡ tag_offset row.now) × (get_or result 1 0 ≡ end_in structures.now row.now) }
-{
-    [
-        numbers::wide(row[TAG_OFFSET]),
-        numbers::wide64(row::tag_end(row, structures)),
-    ]
-}
-
-fn name_spans(
-    tags: &[[u32; 12]],
-    others: &[[u32; 5]],
-    tag_names: &[u8],
-    names: &[u8],
-    lo: &mut [usize; 1088],
-    hi: &mut [usize; 1088],
-)
-    requires { (length tags.now + length others.now ≤ 1088) × (length lo.old ≡ 1088) × (length hi.old ≡ 1088) }
-    ensures { KeysFilled lo.new (of_symbol (tag_first tag_names.now) (other_first names.now) tags.now
-        others.now) (length tags.now + length others.now)
-        × KeysFilled hi.new (of_symbol (tag_last tag_names.now) (other_first names.now) tags.now
-        others.now) (length tags.now + length others.now) }
-{
-    let n = tags.len() + others.len();
-    let mut i = 0;
-    while i < n {
-        let s = name_span(tags, others, tag_names, names, i);
-        lo[i] = s[0];
-        hi[i] = s[1];
-        i += 1;
+    let h = symbol_key(row, tag_names);
+    Span {
+        first: 2 * h,
+        end: 2 * h + 2,
     }
 }
 
-fn id_spans(tags: &[[u32; 12]], others: &[[u32; 5]], lo: &mut [usize; 1088], hi: &mut [usize; 1088])
-    requires { (length tags.now + length others.now ≤ 1088) × (length lo.old ≡ 1088) × (length hi.old ≡ 1088) }
-    ensures { KeysFilled lo.new (of_symbol id_key id_key tags.now others.now)
-        (length tags.now + length others.now) × KeysFilled hi.new
-        (of_symbol id_last id_last tags.now others.now) (length tags.now + length others.now) }
+/// Another symbol stands between them, so it keeps from tags only.
+fn other_span(row: &[u32; 5], names: &[u8]) -> Span
+    ensures { result ≡ other_span names.now row.now }
 {
-    let n = tags.len() + others.len();
-    let mut i = 0;
-    while i < n {
-        let s = id_span(tags, others, i);
-        lo[i] = s[0];
-        hi[i] = s[1];
-        i += 1;
+    let h = symbol_key(row, names);
+    Span {
+        first: 2 * h + 1,
+        end: 2 * h + 1,
     }
 }
 
-fn byte_spans(
-    tags: &[[u32; 12]],
-    structures: &[[u32; 10]],
-    lo: &mut [usize; 1088],
-    hi: &mut [usize; 1088],
-)
-    requires { (length tags.now ≤ 1088) × (length lo.old ≡ 1088) × (length hi.old ≡ 1088) }
-    ensures { KeysFilled lo.new (λ k. tag_offset (get_or tags.now k [])) (length tags.now)
-        × KeysFilled hi.new (λ k. end_in structures.now (get_or tags.now k [])) (length tags.now) }
+/// A number of a tag's or another symbol's ID and scope.
+fn id_span<const N: usize>(row: &[u32; N]) -> Span
+    requires { 3 < N }
+    ensures { result ≡ id_span row.now }
 {
-    let mut i = 0;
-    while i < tags.len() {
-        let s = byte_span(&tags[i], structures);
-        lo[i] = s[0];
-        hi[i] = s[1];
-        i += 1;
+    let first = row[SYMBOL_ID] as usize * 32 + row[SYMBOL_SCOPE] as usize % 32;
+    Span {
+        first,
+        end: first + 1,
     }
 }
 
-fn names_differ(tags: &[[u32; 12]], others: &[[u32; 5]], tag_names: &[u8], names: &[u8]) -> usize
-    requires { length tags.now + length others.now ≤ 1088 }
-    ensures { result ≡ 0 → (pairs (tag_names_differ tag_names.now) tags.now ≡ true)
-        × (every (λ t. every (other_names_differ tag_names.now names.now t) others.now) tags.now ≡ true) }
+/// A tag's bytes.
+fn byte_span(row: &[u32; 12], structures: &[[u32; 10]]) -> Span
+    ensures { result ≡ byte_span structures.now row.now }
 {
-    let mut lo = [0; 1088];
-    let mut hi = [0; 1088];
-    name_spans(tags, others, tag_names, names, &mut lo, &mut hi);
-    crate::spread(&lo, &hi, tags.len() + others.len())
+    Span {
+        first: row[TAG_OFFSET] as usize,
+        end: row::tag_end(row, structures) as usize,
+    }
 }
 
-fn ids_differ(tags: &[[u32; 12]], others: &[[u32; 5]]) -> usize
-    requires { length tags.now + length others.now ≤ 1088 }
-    ensures { result ≡ 0 → (pairs ids_differ tags.now ≡ true) ×
-        (every (λ t. every (ids_differ t) others.now) tags.now ≡ true) × (pairs ids_differ others.now ≡ true) }
+#[tactic(auto, using(laws::proofs::Chain::chain), unfolding(crate::specs::Keys::of_symbol))]
+fn name_span_at(t: &Tables, k: usize) -> Span
+    requires { k < length t.now.tags.now + length t.now.others.now }
+    ensures { result ≡ of_symbol (tag_span t.now.tag_names.now) (other_span t.now.names.now)
+        t.now.tags.now t.now.others.now k }
 {
-    let mut lo = [0; 1088];
-    let mut hi = [0; 1088];
-    id_spans(tags, others, &mut lo, &mut hi);
-    crate::spread(&lo, &hi, tags.len() + others.len())
+    match t.tags.get(k) {
+        Some(row) => tag_span(row, t.tag_names),
+        None => other_span(&t.others[k - t.tags.len()], t.names),
+    }
 }
 
-fn bytes_apart(tags: &[[u32; 12]], structures: &[[u32; 10]]) -> usize
-    requires { length tags.now ≤ 1088 }
-    ensures { result ≡ 0 → pairs (apart structures.now) tags.now ≡ true }
+#[tactic(auto, using(laws::proofs::Chain::chain), unfolding(crate::specs::Keys::of_symbol))]
+fn id_span_at(t: &Tables, k: usize) -> Span
+    requires { k < length t.now.tags.now + length t.now.others.now }
+    ensures { result ≡ of_symbol id_span id_span t.now.tags.now t.now.others.now k }
 {
-    let mut lo = [0; 1088];
-    let mut hi = [0; 1088];
-    byte_spans(tags, structures, &mut lo, &mut hi);
-    crate::spread(&lo, &hi, tags.len())
+    match t.tags.get(k) {
+        Some(row) => id_span(row),
+        None => id_span(&t.others[k - t.tags.len()]),
+    }
 }
 
-/// 0 if each two symbols surely pass, else 1 plus the number of one that likely fails against a later one, the tags counted first.
-/// Few tags are not worth a sort.
-pub fn sure(
-    structures: &[[u32; 10]],
-    tags: &[[u32; 12]],
-    others: &[[u32; 5]],
-    names: &[u8],
-    tag_names: &[u8],
-) -> usize
-    ensures { result ≡ 0 → symbols_judged structures.now tags.now others.now names.now
-        tag_names.now ≡ true }
+fn names_differ(t: &Tables) -> Result<(), Suspect>
+    requires { length t.now.tags.now + length t.now.others.now ≤ 1088 }
+    ensures { IsOk result → (pairs (tag_names_differ t.now.tag_names.now) t.now.tags.now ≡ true)
+        × (every (λ r. every (other_names_differ t.now.tag_names.now t.now.names.now r) t.now.others.now)
+        t.now.tags.now ≡ true) }
 {
-    if tags.len() < FEW {
-        return crate::UNKNOWN;
+    spread_by(t.tags.len() + t.others.len(), |k| name_span_at(t, k))
+}
+
+fn ids_differ(t: &Tables) -> Result<(), Suspect>
+    requires { length t.now.tags.now + length t.now.others.now ≤ 1088 }
+    ensures { IsOk result → (pairs ids_differ t.now.tags.now ≡ true)
+        × (every (λ r. every (ids_differ r) t.now.others.now) t.now.tags.now ≡ true)
+        × (pairs ids_differ t.now.others.now ≡ true) }
+{
+    spread_by(t.tags.len() + t.others.len(), |k| id_span_at(t, k))
+}
+
+fn bytes_apart(t: &Tables) -> Result<(), Suspect>
+    requires { length t.now.tags.now ≤ 1088 }
+    ensures { IsOk result → pairs (apart t.now.structures.now) t.now.tags.now ≡ true }
+{
+    spread_by(t.tags.len(), |k| byte_span(&t.tags[k], t.structures))
+}
+
+/// Whether each two symbols surely pass. Few tags are not worth a sort.
+#[tactic(auto, using(crate::proofs::Keyed::all_sure))]
+pub fn sure(t: &Tables) -> Result<(), Suspect>
+    ensures { IsOk result → symbols_judged (tables_of t.now) ≡ true }
+{
+    if t.tags.len() < FEW || t.tags.len() > MOST_TAGS || t.others.len() > MOST_OTHERS {
+        return Err(Suspect::Unknown);
     }
-    if tags.len() > 1024 {
-        return crate::UNKNOWN;
-    }
-    if others.len() > 64 {
-        return crate::UNKNOWN;
-    }
-    let bytes = bytes_apart(tags, structures);
-    if bytes != 0 {
-        return bytes;
-    }
-    let ids = ids_differ(tags, others);
-    if ids != 0 {
-        return ids;
-    }
-    names_differ(tags, others, tag_names, names)
+    bytes_apart(t)?;
+    ids_differ(t)?;
+    names_differ(t)
 }

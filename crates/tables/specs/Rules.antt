@@ -1,60 +1,94 @@
--- The tests of the definition by their places, as the code asks for them, and what the code tells.
-use Rattle.std.specs.Prelude.{◌≡◌, Bool, List, [], ℕ, eqb, get_or}
-use Rattle.std.proofs.Math.Option.{Option, none, some}
-use Rattle.laws.specs.Pick.{pick}
-use Rattle.definition.specs.Tables.{Tables, Row}
-use Rattle.definition.specs.Breach.{Breach as Defined, RowRule, Test, no_rule, no_test, tell, test_at, clashes}
+-- What the code tells of a table set, in the definition's numbers.
+use Rattle.std.specs.Prelude.{ℕ, length, Option, None, Some}
+use Rattle.definition.specs.Tables.{Tables}
+use Rattle.definition.specs.Breach.{Breach as Defined, no_table, structures_table, members_table, programs_table, tags_table, others_table, tag_memory, template_store}
 use Rattle.tables.specs.declared.rules.Breach.{Breach}
-use Rattle.tables.specs.declared.rules.Told.{Told}
-use Rattle.tables.specs.declared.rules.Told.TheVariants.{Fine, Broken}
+use Rattle.tables.specs.declared.rules.Place.{Place}
+use Rattle.tables.specs.declared.rules.Rule.{Rule}
+use Rattle.tables.specs.declared.rules.Rule.TheVariants.{NameStored, ScopeKnown, TypeKnown, TemplateIdFits, HandleFits, SymbolTypeFits, MembersStored, AoiMark, HiddenMark, LocalMark, AliasMark, Count, Access, NameLength, NameBytes, NameUnique, IdNonzero, IdUnique, StructureSize, TemplateStored, Bit, EarlierType, InsideStructure, TagType, LengthsFirst, Elements, InsideMemory, BytesApart}
+use Rattle.tables.specs.declared.rules.Table.{Table}
+use Rattle.tables.specs.declared.rules.Table.TheVariants.{Structures, Members, Programs, Tags, Others, Memory, Templates}
 
--- tables of nothing: a test's rule and tables are the same whatever the tables hold
-abbrev pub no_tables : Tables
-no_tables = record {
-  structures = [];
-  members = [];
-  programs = [];
-  tags = [];
-  others = [];
-  names = [];
-  tag_names = [];
-  templates = [];
-}
+abbrev pub rule_number : Rule → ℕ
+rule_number NameStored = 1
+rule_number ScopeKnown = 2
+rule_number TypeKnown = 3
+rule_number TemplateIdFits = 4
+rule_number HandleFits = 5
+rule_number SymbolTypeFits = 6
+rule_number MembersStored = 7
+rule_number AoiMark = 8
+rule_number HiddenMark = 9
+rule_number LocalMark = 10
+rule_number AliasMark = 11
+rule_number Count = 101
+rule_number Access = 102
+rule_number NameLength = 201
+rule_number NameBytes = 202
+rule_number NameUnique = 203
+rule_number IdNonzero = 301
+rule_number IdUnique = 302
+rule_number StructureSize = 401
+rule_number TemplateStored = 402
+rule_number Bit = 403
+rule_number EarlierType = 404
+rule_number InsideStructure = 405
+rule_number TagType = 501
+rule_number LengthsFirst = 502
+rule_number Elements = 503
+rule_number InsideMemory = 601
+rule_number BytesApart = 602
 
--- a test's rule, its table, and the table of the other row
-unfoldable pub rule_at : ℕ → ℕ
-rule_at n = (test_at no_tables 0 n).rule
+abbrev pub table_number : Table → ℕ
+table_number Structures = structures_table
+table_number Members = members_table
+table_number Programs = programs_table
+table_number Tags = tags_table
+table_number Others = others_table
+table_number Memory = tag_memory
+table_number Templates = template_store
 
-unfoldable pub table_at : ℕ → ℕ
-table_at n = (test_at no_tables 0 n).table
+-- the rows or bytes of a table, and T1's limit of them
+abbrev pub count_in : Table → Tables → (memory : ℕ) → ℕ
+count_in Structures t memory = length t.structures
+count_in Members t memory = length t.members
+count_in Programs t memory = length t.programs
+count_in Tags t memory = length t.tags
+count_in Others t memory = length t.others
+count_in Memory t memory = memory
+count_in Templates t memory = length t.templates
 
-unfoldable pub other_table_at : ℕ → ℕ
-other_table_at n = (test_at no_tables 0 n).other_table
+abbrev pub limit_of : Table → ℕ
+limit_of Structures = 64
+limit_of Members = 512
+limit_of Programs = 16
+limit_of Tags = 1024
+limit_of Others = 64
+limit_of Memory = 65536
+limit_of Templates = 65536
 
--- the rows or bytes of a table by its number; one turn where there is no other row
-abbrev pub count_in : (structures members programs tags others memory templates : ℕ) (table : ℕ) → ℕ
-count_in structures members programs tags others memory templates table =
-    pick (eqb table 1) structures (pick (eqb table 2) members (pick (eqb table 3) programs (pick (eqb table 4) tags (pick (eqb table 5) others
-    (pick (eqb table 6) memory (pick (eqb table 7) templates 1))))))
+-- the other row's table and the row, zeros where there is none
+abbrev pub other_number : Option Table → ℕ
+other_number None = no_table
+other_number (Some table) = table_number table
 
-abbrev pub limit_at : ℕ → ℕ
-limit_at n = pick (eqb n 0) 64 (pick (eqb n 1) 512 (pick (eqb n 2) 16 (pick (eqb n 3) 1024 (pick (eqb n 4) 64 65536))))
+abbrev pub place_table : Option Place → Option Table
+place_table None = None
+place_table (Some p) = Some p.table
 
--- a rule of a row by its place in its table's list
-abbrev pub passes_at : List RowRule → ℕ → Row → Bool
-passes_at rules n r = (get_or rules n no_rule).passes r
-
--- a test of rows that clash by its place among these
-abbrev pub clash_at : Tables → ℕ → Test
-clash_at t n = get_or (clashes t) n no_test
+abbrev pub place_row : Option Place → ℕ
+place_row None = 0
+place_row (Some p) = p.row
 
 abbrev pub breach_of : Breach → Defined
-breach_of b = record { rule = b.rule; table = b.table; row = b.row; other_table = b.other_table; other = b.other }
+breach_of b = record {
+  rule = rule_number b.rule;
+  table = table_number b.at.table;
+  row = b.at.row;
+  other_table = other_number (place_table b.other);
+  other = place_row b.other;
+}
 
-abbrev pub told_of : Told → Option Defined
-told_of Fine = none
-told_of (Broken b) = some (breach_of b)
-
--- what is told of test n is the definition's, whatever the tables
-abbrev pub TellsAt : (n i j : ℕ) → Defined → Type 0
-TellsAt n i j b = (t : Tables) (memory : ℕ) → b ≡ tell (test_at t memory n) i j
+abbrev pub told_of : Option Breach → Option Defined
+told_of None = None
+told_of (Some b) = Some (breach_of b)

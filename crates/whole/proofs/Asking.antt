@@ -3,8 +3,8 @@
 use mathlib.Core.Path.{◌≡◌, refl, sym, ap, ◌∙◌}
 use mathlib.Core.Bool.{true}
 use mathlib.Core.List.{List, [], ◌∷◌, ◌++◌, append_assoc, append-nil}
-use mathlib.Core.Option.{Option, none, some}
-use Prim.Native.Nat.{ℕ, suc, ◌+◌, ◌-◌, ◌/◌, ◌%◌, ◌≤◌, ◌<◌}
+use Rattle.std.specs.Prelude.{Option, None, Some}
+use Prim.Native.Nat.{ℕ, suc, ◌+◌, ◌/◌, ◌%◌, ◌≤◌, ◌<◌}
 use native.Mathlib.Omega.{arith}
 use lib.Dec.{leb, eqb}
 use lib.ListN.{length, take, get_or, length-append}
@@ -78,7 +78,7 @@ module _ (program : List ℕ) where
   pub scope-none : (old : List ℕ) → length program ≡ 0 → old ≡ put old 2 (scope_path program)
   scope-none old e = rw (no_name e) (sym (put-none old 2))
 
-  module _ (old a b c : List ℕ) (words : ℕ) (short : length program ≤ 255) (fits : 260 ≤ length old) (some : length program ≡ 0 → ⊥)
+  module _ (old a b c : List ℕ) (words : ℕ) (short : length program ≤ 255) (fits : 260 ≤ length old) (Some : length program ≡ 0 → ⊥)
       (p : a ≡ put old 2 (0x91 ∷ [])) (q : b ≡ put a 3 (words ∷ [])) (w : words ≡ length program) (r : c ≡ put b 4 program) where
     name_put : c ≡ put old 2 (0x91 ∷ length program ∷ program)
     name_put =
@@ -87,11 +87,11 @@ module _ (program : List ℕ) where
         rw w at three
 
     pub scope_put_even : length program % 2 ≡ 0 → c ≡ put old 2 (scope_path program)
-    scope_put_even e = rw (a_name some, name_even e) name_put
+    scope_put_even e = rw (a_name Some, name_even e) name_put
 
     pub scope_put_odd : (d : List ℕ) → (length program % 2 ≡ 0 → ⊥) → d ≡ put c (4 + length program) (0 ∷ []) → d ≡ put old 2 (scope_path program)
     scope_put_odd d e s =
-        rw (a_name some, name_odd e)
+        rw (a_name Some, name_odd e)
         (put_then _ _ _ 2 (0x91 ∷ length program ∷ program) _ _ name_put s (omega arith) (omega arith))
 
 module _ (program attributes : List ℕ) (id : ℕ) where
@@ -121,12 +121,12 @@ module _ (program attributes : List ℕ) (id : ℕ) where
       let k : words ≡ length (list_path program id) / 2 = w ∙ rw (path-length, l) refl in
       record { length_is = omega (arith, list_length); buffer_is = rw k at six }
 
-  -- the message is the front of the array that the request was written to, its part from 0 to n
+  -- the message is the front of the array that the request was written to
   pub list_part : (n : ℕ) (old new : List ℕ) → length (list_request program attributes id) ≤ length old
-      → Written 0 (list_request program attributes id) old n new → take (n - 0) new ≡ list_request program attributes id
+      → Written 0 (list_request program attributes id) old n new → take n new ≡ list_request program attributes id
   list_part n old new fits w =
       let q = list_request program attributes id in
-      let e : n - 0 ≡ 0 + length q = omega (arith, w.length_is) in
+      let e : n ≡ 0 + length q = omega (arith, w.length_is) in
       rw (e, w.buffer_is) (take_put old 0 q (omega arith))
 
 -- ---- the segments of the path
@@ -173,7 +173,7 @@ module _ (front : List ℕ) (id : ℕ) where
         le-leb (length front + 1 + 1 + 1 + 5) (length path) (omega (arith, long)),
       )
 
-  object-segments : id < 4294967296 → segments_from path (length front) ≡ some (class 0x6B ∷ (instance id ∷ []))
+  object-segments : id < 4294967296 → segments_from path (length front) ≡ Some (class 0x6B ∷ (instance id ∷ []))
   object-segments h =
       segments_next path _ _ _ _ class_at (segments_next path _ _ _ _ (instance_at h) (segments_end path (length front + 1 + 1 + 1 + 5) (omega (arith, long))))
 
@@ -205,7 +205,7 @@ module _ (program : List ℕ) (id : ℕ) where
   abbrev pub decoded : List Segment
   decoded = pick (eqb (length program) 0) (class 0x6B ∷ (instance id ∷ [])) (symbol program ∷ (class 0x6B ∷ (instance id ∷ [])))
 
-  path-decodes : id < 4294967296 → segments (list_path program id) ≡ some decoded
+  path-decodes : id < 4294967296 → segments (list_path program id) ≡ Some decoded
   unfolding list_path
   path-decodes h =
       by_test (eqb (length program) 0)
@@ -220,11 +220,11 @@ module _ (program : List ℕ) (id : ℕ) where
       record { whole_words = omega (arith, l, e.0); one_byte = omega (arith, l, e.1); decodes = path-decodes h }
 
   module _ (t : Tables) (scope : ℕ) where
-    started : (o : Option ℕ) → scope_named o ≡ some scope → start_of o (some id) ≡ some (record { scope = scope; id = id })
-    started none e = clash (cc e)
-    started (some k) e = let q : suc k ≡ scope = cc e in rw q
+    started : (o : Option ℕ) → scope_named o ≡ Some scope → start_of o (Some id) ≡ Some (record { scope = scope; id = id })
+    started None e = clash (cc e)
+    started (Some k) e = let q : suc k ≡ scope = cc e in rw q
 
-    page_starts : scope_of t program ≡ some scope → page_start t decoded ≡ some (record { scope = scope; id = id })
+    page_starts : scope_of t program ≡ Some scope → page_start t decoded ≡ Some (record { scope = scope; id = id })
     unfolding scope_of page_start
     page_starts e =
         by_test (eqb (length program) 0)
@@ -241,7 +241,7 @@ module _ (t : Tables) (f : Flags) (m program attributes : List ℕ) (id limit : 
   pub list_keeps : (answer t f m (list_request program attributes id) limit).memory ≡ m
   list_keeps = ap (λ (a : Answer). a.memory) list_answer
 
-  pub list_granted : (scope : ℕ) (numbers : List ℕ) → scope_of t program ≡ some scope → counted attributes ≡ some numbers → every is_listed numbers ≡ true
+  pub list_granted : (scope : ℕ) (numbers : List ℕ) → scope_of t program ≡ Some scope → counted attributes ≡ Some numbers → every is_listed numbers ≡ true
       → (answer t f m (list_request program attributes id) limit).reply ≡ page_reply 0x55 (due t scope numbers id) limit
   unfolding list_symbols
   list_granted scope numbers s c a =

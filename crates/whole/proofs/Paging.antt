@@ -3,6 +3,7 @@
 use mathlib.Core.Path.{◌≡◌, refl, sym, ap, ◌∙◌}
 use mathlib.Core.Logic.{◌≢◌}
 use mathlib.Core.List.{List, [], ◌∷◌, ◌++◌, append_assoc}
+use Rattle.std.specs.Prelude.{Option, None, Some}
 use Prim.Native.Nat.{ℕ, zero, suc, ◌+◌, ◌-◌, ◌*◌, ◌≤◌, ◌<◌}
 use native.Mathlib.Omega.{arith}
 use lib.Dec.{leb, eqb}
@@ -17,7 +18,6 @@ use Rattle.laws.proofs.Put.{put_then, kept_laid, kept_then, kept_less}
 use Rattle.laws.proofs.Parts.{laid-byte, laid_rest, laid-drop}
 use Rattle.laws.proofs.Sorted.{All-from}
 use Rattle.laws.proofs.Until.{until-done, until_more}
-use Rattle.definition.specs.Bytes.{numbers}
 use Rattle.definition.specs.Reply.{reply, room}
 use Rattle.definition.specs.Tables.{Tables, Flags}
 use Rattle.definition.specs.Page.{Entry, id_of, bytes_of, fitting, page_reply}
@@ -30,10 +30,8 @@ use Rattle.continued.proofs.Entries.{bytes-append, bytes-some, fitting_le, fitti
 use Rattle.services.specs.Answers.{Answers}
 use Rattle.whole.specs.declared.joins.Turn.{Turn}
 use Rattle.whole.specs.declared.joins.Turn.TheVariants.{Last, More}
-use Rattle.whole.specs.declared.walks.PageStart.{PageStart}
-use Rattle.whole.specs.declared.walks.PageStart.TheVariants.{At, Nowhere}
 use Rattle.whole.specs.Lists.{list_request, longest, behind, last_page}
-use Rattle.whole.specs.Turns.{Askable, Granted, StartsAt, BringsPage, Page}
+use Rattle.whole.specs.Turns.{Askable, Granted, StartsAt, BringsPage, Paged}
 use Rattle.whole.proofs.Asking.{askable-short, list_keeps, list_granted}
 
 -- ---- entries and the longest of them
@@ -117,7 +115,7 @@ module _ (es : List Entry) (limit n : ℕ) (old new : List ℕ) (room_for : 4 + 
     page_put : filled ≡ put out got (bytes_of (take k es))
     page_put = joins ∙ ap (put out got) page_data
 
-    page_last : get_or new 2 0 ≡ 0 → Page es limit got out (Last end) filled
+    page_last : get_or new 2 0 ≡ 0 → Paged es limit got out (Last end) filled
     page_last z =
         by_test (eqb k (length es))
         (λ b. let all : take k es ≡ es = take_all k es (omega (arith, eqb-true k (length es) b)) in
@@ -130,7 +128,7 @@ module _ (es : List Entry) (limit n : ℕ) (old new : List ℕ) (room_for : 4 + 
         })
         (λ b. let six : get_or new 2 0 ≡ 6 = page_status ∙ rw b refl in absurd (omega (arith, z, six)))
 
-    page_more : All (λ e. 0 < length e.bytes) es → get_or new 2 0 ≢ 0 → Page es limit got out (More end) filled
+    page_more : All (λ e. 0 < length e.bytes) es → get_or new 2 0 ≢ 0 → Paged es limit got out (More end) filled
     page_more positive z =
         by_test (eqb k (length es))
         (λ b. absurd (z (page_status ∙ rw b refl)))
@@ -140,20 +138,21 @@ module _ (es : List Entry) (limit n : ℕ) (old new : List ℕ) (room_for : 4 + 
 
 -- ---- one page that is granted
 
-module _ {t : Tables} (f : Flags) {m program attributes : List ℕ} {limit buffer scope n start size : ℕ} (got : ℕ) {room_out : ℕ} {old new left : List ℕ}
-    (p : Askable t m program attributes limit buffer × Granted t program attributes scope n
-    × (4 + longest (due t scope (numbers n (drop 2 attributes)) start) ≤ limit)
-    × (got + length (bytes_of (due t scope (numbers n (drop 2 attributes)) start)) ≤ room_out) × (got ≤ 71302080))
+module _ {t : Tables} (f : Flags) {m program attributes : List ℕ} {limit buffer scope start size : ℕ} {numbers : List ℕ} (got : ℕ)
+    {room_out : ℕ} {old new left : List ℕ}
+    (p : Askable t m program attributes limit buffer × Granted t program attributes scope numbers
+    × (4 + longest (due t scope numbers start) ≤ limit)
+    × (got + length (bytes_of (due t scope numbers start)) ≤ room_out) × (got ≤ 71302080))
     (small : start < 4294967296) (r : Answers limit (answer t f m (list_request program attributes start) limit) old size new left) where
   abbrev entries : List Entry
-  entries = due t scope (numbers n (drop 2 attributes)) start
+  entries = due t scope numbers start
 
   short : length program ≤ 255
   short = (askable-short program attributes p.0.askable).0
 
   reply_is : (answer t f m (list_request program attributes start) limit).reply ≡ page_reply 0x55 entries limit
   reply_is =
-      list_granted t f m program attributes start limit short small scope (numbers n (drop 2 attributes)) p.1.scope_is p.1.numbers_are p.1.accepted
+      list_granted t f m program attributes start limit short small scope numbers p.1.scope_is p.1.numbers_are p.1.accepted
 
   size_is : size ≡ length (page_reply 0x55 entries limit)
   size_is = r.length_is ∙ ap (λ (l : List ℕ). length l) reply_is
@@ -178,13 +177,13 @@ module _ {t : Tables} (f : Flags) {m program attributes : List ℕ} {limit buffe
   turn_fits = omega (arith, length-take (size - 4) (drop 4 new), turn_inside)
 
   module _ (end : ℕ) (out filled : List ℕ) (joins : filled ≡ put out got (take (size - 4) (drop 4 new))) (ends : end ≡ got + (size - 4)) where
-    pub turn_last : get_or new 2 0 ≡ 0 → Page entries limit got out (Last end) filled
+    pub turn_last : get_or new 2 0 ≡ 0 → Paged entries limit got out (Last end) filled
     turn_last = page_last entries limit size old new p.2 size_is lies got end out filled joins ends
 
-    pub turn_more : get_or new 2 0 ≢ 0 → Page entries limit got out (More end) filled
+    pub turn_more : get_or new 2 0 ≢ 0 → Paged entries limit got out (More end) filled
     turn_more =
         page_more entries limit size old new p.2 size_is lies got end out filled joins ends
-        (due-some t scope (numbers n (drop 2 attributes)) start)
+        (due-some t scope numbers start)
 
 -- ---- the last page: one page more, and the last one
 
@@ -225,7 +224,7 @@ module _ {all left : List Entry} {limit got : ℕ} {start out : List ℕ} (j : J
   joins-few few h l =
       omega (arith, bytes-few all (omega arith), j.got_is, ap (λ (l : List ℕ). length l) j.whole, length-append j.passed (bytes_of left))
 
-  module _ {filled : List ℕ} {v : Turn} (p : Page left limit got out v filled) where
+  module _ {filled : List ℕ} {v : Turn} (p : Paged left limit got out v filled) where
     brought : (w : Turn) → v ≡ w → BringsPage left limit got out w filled
     brought w e = rw e at p.is
 
@@ -290,12 +289,12 @@ module _ {all left : List Entry} {limit got : ℕ} {start out : List ℕ} (j : J
           let same : left ≡ last_page limit all = sym (last_done limit left (brought (Last n) e).2) ∙ j.ends in
           lies ∙ laid-drop (room limit) old first _ kept.0 ∙ ap (λ (l : List Entry). laid (room limit) first (page_reply 0x55 l limit)) same
 
-module _ (t : Tables) (scope : ℕ) (attributes : List ℕ) (start : ℕ) (listed left : List Entry) (s : PageStart)
+module _ (t : Tables) (scope : ℕ) (attributes : List ℕ) (start : ℕ) (listed left : List Entry) (s : Option ℕ)
     (at : StartsAt t scope attributes start listed left s) where
-  pub starts_known : (id : ℕ) → s ≡ At id → due t scope attributes id ≡ left
-  starts_known id q = let a : StartsAt t scope attributes start listed left (At id) = rw q at at in a.1
+  pub starts_known : (id : ℕ) → s ≡ Some id → due t scope attributes id ≡ left
+  starts_known id q = let a : StartsAt t scope attributes start listed left (Some id) = rw q at at in a.1
 
-  pub starts_nowhere : s ≡ Nowhere → left ≡ []
+  pub starts_nowhere : s ≡ None → left ≡ []
   starts_nowhere q = rw q at at
 
 -- a turn begins with the memory as it was and a reply buffer as long as it was
@@ -306,8 +305,3 @@ turn_askable memory b a same e = rw (same, e) a
 -- the tables in which it may be asked
 abbrev pub tables_asked : {t : Tables} {m program attributes : List ℕ} {limit buffer : ℕ} → Askable t m program attributes limit buffer → Tables
 tables_asked {t} a = t
-
--- a request's list of attributes is short, so its numbers are few
-pub few-numbers : {t : Tables} {m program attributes : List ℕ} {limit buffer scope n : ℕ}
-    → Askable t m program attributes limit buffer → Granted t program attributes scope n → n ≤ 65535
-few-numbers {program} {attributes} a g = omega (arith, g.list_fits, (askable-short program attributes a.askable).1)

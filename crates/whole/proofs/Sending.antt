@@ -3,8 +3,8 @@
 use mathlib.Core.Path.{◌≡◌, refl}
 use mathlib.Core.Bool.{true, false}
 use mathlib.Core.List.{List, [], ◌∷◌, ◌++◌}
-use mathlib.Core.Option.{Option, none, some}
-use Prim.Native.Nat.{ℕ, ◌+◌, ◌-◌, ◌*◌, ◌/◌, ◌%◌, ◌≤◌, ◌<◌}
+use Rattle.std.specs.Prelude.{Option, None, Some}
+use Prim.Native.Nat.{ℕ, ◌+◌, ◌*◌, ◌/◌, ◌%◌, ◌≤◌, ◌<◌}
 use native.Mathlib.Omega.{arith}
 use lib.Dec.{ltb, leb, eqb}
 use lib.ListN.{length, take, drop, length-append}
@@ -54,13 +54,13 @@ request-put path elements offset words old a b c d e fits w p q r s u =
     let five = put_then _ _ _ 0 _ _ _ four u (omega (arith, length-append path (le16 elements))) (omega arith) in
     record { length_is = omega (arith, request-length path elements offset); buffer_is = rw w at five }
 
--- the message is the front of the array that the request was written to, its part from 0 to n
+-- the message is the front of the array that the request was written to
 pub request_part : (path : List ℕ) (elements offset n : ℕ) (old new : List ℕ) → 8 + length path ≤ length old
-    → Written 0 (read_request path elements offset) old n new → take (n - 0) new ≡ read_request path elements offset
+    → Written 0 (read_request path elements offset) old n new → take n new ≡ read_request path elements offset
 request_part path elements offset n old new fits w =
     let q = read_request path elements offset in
     let l : 0 + length q ≤ length old = omega (arith, request-length path elements offset) in
-    let e : n - 0 ≡ 0 + length q = omega (arith, w.length_is) in
+    let e : n ≡ 0 + length q = omega (arith, w.length_is) in
     rw (e, w.buffer_is) (take_put old 0 q l)
 
 -- ---- the answer
@@ -72,8 +72,8 @@ module _ (t : Tables) (f : Flags) (m : List ℕ) (limit : ℕ) where
 
   request_keeps : (message : List ℕ) (path : Option (List Segment)) (body : List ℕ) → (any_request t f m message (with_path 0x52 path body) limit).memory ≡ m
   unfolding tag_service
-  request_keeps message none body = refl
-  request_keeps message (some path) body =
+  request_keeps message None body = refl
+  request_keeps message (Some path) body =
       plain-all (λ (a : Answer). a.memory ≡ m) t f m 0x52 path body limit (λ r p. refl) (target_keeps (tag_target t f false path) body)
 
   -- a read changes no tag memory, whatever its path
@@ -88,14 +88,14 @@ module _ (t : Tables) (f : Flags) (m : List ℕ) (limit : ℕ) where
 -- ---- a read that selects something
 
 module _ (t : Tables) (f : Flags) (m path : List ℕ) (elements : ℕ) (s : Selection) where
-  granted_by : (a : Asked) → if_granted a ≡ some s → a ≡ granted s
+  granted_by : (a : Asked) → if_granted a ≡ Some s → a ≡ granted s
   granted_by (granted x) e = cc e
   granted_by (not_granted status) e = clash (cc e)
 
   module _ (sendable : is_sendable path ≡ true) (ok : valid t (length m) ≡ true) (count : elements < 65536) where
-    readable_by : (o : Option (List Segment)) → segments path ≡ o → chosen_by t f elements o ≡ some s → Readable t f m path elements s
-    readable_by none d e = clash (cc e)
-    readable_by (some l) d e =
+    readable_by : (o : Option (List Segment)) → segments path ≡ o → chosen_by t f elements o ≡ Some s → Readable t f m path elements s
+    readable_by None d e = clash (cc e)
+    readable_by (Some l) d e =
         let w = sendable_words path sendable in
         by_test (is_tag_path l)
         (λ b. record {
@@ -108,7 +108,7 @@ module _ (t : Tables) (f : Flags) (m path : List ℕ) (elements : ℕ) (s : Sele
         })
         (λ b. clash (cc (rw b at e)))
 
-    pub readable : chosen t f path elements ≡ some s → Readable t f m path elements s
+    pub readable : chosen t f path elements ≡ Some s → Readable t f m path elements s
     unfolding chosen
     readable = readable_by (segments path) refl
 

@@ -2,10 +2,12 @@
 -- Assumes nothing.
 use mathlib.Core.Path.{◌≡◌, refl}
 use mathlib.Core.List.{List, [], ◌∷◌, ◌++◌}
-use Prim.Native.Nat.{ℕ, zero, suc, ◌+◌, ◌-◌, ◌*◌, ◌≤◌, ◌<◌}
+use Prim.Native.Nat.{ℕ, zero, suc, ◌+◌, ◌-◌, ◌≤◌, ◌<◌}
 use native.Mathlib.Omega.{arith}
 use lib.ListN.{length, get_or, drop, replicate}
+use Rattle.std.specs.Prelude.{None, Some}
 use Rattle.laws.specs.Put.{laid}
+use Rattle.definition.specs.Bytes.{le16, u16_at}
 use Rattle.definition.specs.Reply.{reply, fail, general, extended}
 use Rattle.whole.specs.Whole.{status_in, word_in}
 
@@ -26,15 +28,16 @@ module _ (m : ℕ) (old r new : List ℕ) (long : 8 ≤ m) (lies : new ≡ laid 
   byte i h = rw lies (front-byte r (m - length r) i (drop m old) (omega arith))
 
   pub laid-status : status_in new ≡ status_in r
-  unfolding status_in word_in
+  unfolding word_in
   laid-status = rw (byte 2 (omega arith), byte 3 (omega arith), byte 4 (omega arith), byte 5 (omega arith)) refl
 
 -- a general status alone
-pub status-general : (service code : ℕ) → status_in (fail service (general code)) ≡ code
-unfolding status_in word_in reply
-status-general service code = omega arith
+pub status-general : (service code : ℕ) → status_in (fail service (general code)) ≡ record { general = code; word = None }
+unfolding word_in reply
+status-general service code = refl
 
 -- and one with an extended word of 16 bits
-pub status-extended : (service code word : ℕ) → word < 65536 → status_in (fail service (extended code word)) ≡ code + 256 * word
-unfolding status_in word_in reply
-status-extended service code word h = omega arith
+pub status-extended : (service code word : ℕ) → word < 65536
+    → status_in (fail service (extended code word)) ≡ record { general = code; word = Some word }
+unfolding word_in reply
+status-extended service code word h = let e : u16_at (le16 word) 0 ≡ word = omega arith in rw e refl

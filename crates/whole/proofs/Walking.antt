@@ -1,37 +1,36 @@
 -- The walk over the entries of a scope, one after another by ascending ID: all of them measured, and as far as a page's go.
 -- Assumes nothing.
-use mathlib.Core.Path.{◌≡◌, refl, sym, ◌∙◌}
+use mathlib.Core.Path.{◌≡◌, sym, ◌∙◌}
+use mathlib.Core.Logic.{◌⊎◌, inl, inr}
 use mathlib.Core.Bool.{true}
 use mathlib.Core.List.{List, [], ◌∷◌, map}
+use Rattle.std.specs.Prelude.{Option, None, Some}
 use Prim.Native.Nat.{ℕ, suc, ◌+◌, ◌-◌, ◌*◌, ◌≤◌, ◌<◌, max}
 use native.Mathlib.Omega.{arith}
 use lib.Dec.{leb, ltb, eqb}
 use lib.ListN.{length, take, drop, length-append, length-map}
-use borrow.Author.Tests.{leb-true, le-leb, lt-leb, ltb-false}
+use borrow.Author.Tests.{leb-true, le-leb, lt-leb}
 use Rattle.laws.specs.Fold.{fold}
 use Rattle.laws.specs.Put.{KeptFrom}
 use Rattle.laws.proofs.Chain.{by_test, pick_all}
 use Rattle.laws.proofs.Put.{kept_put}
 use Rattle.laws.proofs.Sorted.{length-sort, length_from}
-use Rattle.laws.proofs.Tests.{among, both-none}
+use Rattle.laws.specs.Pick.{both}
+use Rattle.laws.proofs.Tests.{among, both-none, both_true}
 use Rattle.definition.specs.Tables.{Tables, Row, tag_scope, tag_id, other_scope}
 use Rattle.definition.specs.Valid.{valid, t1}
 use Rattle.definition.specs.Page.{Entry, id_of, bytes_of, fitting}
 use Rattle.definition.specs.Symbols.{Symbol, tag_symbol, other_symbol, in_scope_only, symbols, entry_of, listing, due}
-use Rattle.model.specs.Least.{least_row, nearer_id, least_in, nearest, next_in}
-use Rattle.model.specs.declared.least.Least.{Least}
-use Rattle.model.specs.declared.least.Least.TheVariants.{Of, Empty}
+use Rattle.model.specs.Least.{listed, nearer, least_row, least_in, nearest, next_in}
+use Rattle.model.specs.declared.least.Listed.{Listed}
 use Rattle.model.specs.declared.least.Next.{Next}
-use Rattle.model.specs.declared.least.Next.TheVariants.{Tag, Other, Nothing}
-use Rattle.model.proofs.Due.{NextDue, none_due, tag_due, other_due, next_due}
+use Rattle.model.specs.declared.least.Next.TheVariants.{Tag, Other}
+use Rattle.model.proofs.Due.{NextDue, none_due, next_due}
 use Rattle.model.specs.Tables.{SomeValid, WhereValid}
-use Rattle.listing.specs.Entries.{Stepped, more, full, done, Further}
+use Rattle.listing.specs.Entries.{Stepped, more, full, done}
+use Rattle.listing.specs.declared.pages.Walk.{Walk}
 use Rattle.listing.specs.declared.pages.Step.{Step}
 use Rattle.listing.specs.declared.pages.Step.TheVariants.{More, Full, Done}
-use Rattle.listing.proofs.Filled.{further_more}
-use Rattle.whole.specs.declared.walks.Measure.TheVariants.{Total, Narrow}
-use Rattle.whole.specs.declared.walks.PageStart.{PageStart}
-use Rattle.whole.specs.declared.walks.PageStart.TheVariants.{At, Nowhere}
 use Rattle.whole.specs.Lists.{longest}
 use Rattle.whole.specs.Turns.{Measured, next_id, start_by, StartsAt}
 
@@ -100,8 +99,8 @@ module _ (limit : ℕ) (all left : List Entry) (total : ℕ) (m : Measuring limi
 
 module _ (t : Tables) (scope : ℕ) (attributes : List ℕ) (limit bound : ℕ) (old : List ℕ) where
   module _ (all : List Entry) (total : ℕ) (m : Measuring limit all (due t scope attributes bound) total) where
-    on_more : {u b h : ℕ} {new : List ℕ} → limit ≤ 65535 → Stepped t scope attributes limit 4 bound old (More u b h) new
-        → Measuring limit all (due t scope attributes b) (total + (u - 4)) × (total + 65535 ≤ 71302080)
+    on_more : {w : Walk} {new : List ℕ} → limit ≤ 65535 → Stepped t scope attributes limit 4 bound old (More w) new
+        → Measuring limit all (due t scope attributes w.bound) (total + (w.used - 4)) × (total + 65535 ≤ 71302080)
     on_more l (more e i d k h p) =
         (measure_on limit all _ total m e _ _ d k h l, let f = rw d at m.few in omega (arith, f))
 
@@ -112,27 +111,15 @@ module _ (t : Tables) (scope : ℕ) (attributes : List ℕ) (limit bound : ℕ) 
     on_done l (done d p) = measure_end limit all _ total m d l
 
     module _ (s : Step) (new : List ℕ) (step : Stepped t scope attributes limit 4 bound old s new) where
-      pub measure_more : {u b h : ℕ} → limit ≤ 65535 → s ≡ More u b h
-          → Measuring limit all (due t scope attributes b) (total + (u - 4)) × (total + 65535 ≤ 71302080)
+      pub measure_more : {w : Walk} → limit ≤ 65535 → s ≡ More w
+          → Measuring limit all (due t scope attributes w.bound) (total + (w.used - 4)) × (total + 65535 ≤ 71302080)
       measure_more l q = on_more l (rw q at step)
 
-      pub measure_full : s ≡ Full → Measured all limit Narrow
+      pub measure_full : s ≡ Full → Measured all limit None
       measure_full q = on_full (rw q at step)
 
-      pub measure_done : 4 ≤ limit → s ≡ Done → Measured all limit (Total total)
+      pub measure_done : 4 ≤ limit → s ≡ Done → Measured all limit (Some total)
       measure_done l q = on_done l (rw q at step)
-
--- another entry keeps the sum small
-pub measure_few : {lent : Tables → Tables} {scope : ℕ} {attributes : List ℕ} {limit bound total u b h : ℕ}
-    {old new : List ℕ} {s : Step} → SomeValid lent
-    → WhereValid lent (λ t. Measuring limit (due t scope attributes 0) (due t scope attributes bound) total)
-    → WhereValid lent (λ t. Stepped t scope attributes limit 4 bound old s new) × Further 4 limit s
-    → limit ≤ 65535 → s ≡ More u b h → (total + 65535 ≤ 71302080) × (8 ≤ u) × (u ≤ limit)
-measure_few {limit = limit} w m step l q =
-    let few = (measure_more _ _ _ _ _ _ _ _ (m w.rest w.memory w.ok) _ _
-    (step.0 w.rest w.memory w.ok) l q).1 in
-    let on = further_more 4 limit _ q step.1 in
-    (few, on.0, on.1)
 
 -- ---- the entries passed as far as they fit: what is left from here on is what is left from the start
 
@@ -181,7 +168,7 @@ module _ (t : Tables) (scope : ℕ) (attributes : List ℕ) where
       (next_id bound (front_by space (due t scope attributes bound)) ≡ id) × (left_by space (due t scope attributes bound) ≡ left)
 
   module _ (limit used bound : ℕ) (old : List ℕ) (id : ℕ) (left : List Entry) (here : Passes (limit - used) bound id left) where
-    past_more : {u b h : ℕ} {new : List ℕ} → Stepped t scope attributes limit used bound old (More u b h) new → Passes (limit - u) b id left
+    past_more : {w : Walk} {new : List ℕ} → Stepped t scope attributes limit used bound old (More w) new → Passes (limit - w.used) w.bound id left
     past_more (more e i d k h p) = (next_more limit used e _ _ d _ _ _ k h i ∙ here.0, left_more limit used e _ _ d _ k h ∙ here.1)
 
     past_full : {new : List ℕ} → used ≤ limit → Stepped t scope attributes limit used bound old Full new → (bound ≡ id) × (due t scope attributes bound ≡ left)
@@ -191,7 +178,7 @@ module _ (t : Tables) (scope : ℕ) (attributes : List ℕ) where
     past_done (done d p) = (next_none (limit - used) _ d bound ∙ here.0, left_none (limit - used) _ d ∙ here.1)
 
     module _ (s : Step) (new : List ℕ) (step : Stepped t scope attributes limit used bound old s new) where
-      pub bound_more : {u b h : ℕ} → s ≡ More u b h → Passes (limit - u) b id left
+      pub bound_more : {w : Walk} → s ≡ More w → Passes (limit - w.used) w.bound id left
       bound_more q = past_more (rw q at step)
 
       pub bound_full : s ≡ Full → used ≤ limit → (bound ≡ id) × (due t scope attributes bound ≡ left)
@@ -216,63 +203,52 @@ walk_kept a w k l each = step_kept _ _ _ _ _ _ _ _ _ _ k (omega (arith, k.1)) (e
 
 -- ---- a bound that something is due from: the least ID from it on is not below it
 
-abbrev Above : ℕ → Least → Type 0
-Above bound (Of i id) = bound ≤ id
-Above bound Empty = Unit {0}
+abbrev Above : ℕ → Option Listed → Type 0
+Above bound None = Unit {0}
+Above bound (Some r) = bound ≤ r.id
 
-abbrev NextAbove : ℕ → Next → Type 0
-NextAbove bound (Tag i id) = bound ≤ id
-NextAbove bound (Other i id) = bound ≤ id
-NextAbove bound Nothing = Unit {0}
+abbrev NextAbove : ℕ → Option Next → Type 0
+NextAbove bound None = Unit {0}
+NextAbove bound (Some (Tag r)) = bound ≤ r.id
+NextAbove bound (Some (Other r)) = bound ≤ r.id
 
 module _ (scope bound : ℕ) where
-  nearer_above : (i id : ℕ) (rest : Least) → bound ≤ id → Above bound rest → Above bound (nearer_id i id rest)
-  nearer_above i id Empty h a = h
-  nearer_above i id (Of j k) h a = pick_all (Above bound) (ltb id k) h a
+  nearer_above : (r : Listed) (rest : Option Listed) → bound ≤ r.id → Above bound rest → bound ≤ (nearer r rest).id
+  nearer_above r None h a = h
+  nearer_above r (Some other) h a = pick_all (λ (x : Listed). bound ≤ x.id) (ltb r.id other.id) h a
 
-  row_above : (i : ℕ) (r : Row) (rest : Least) → Above bound rest → Above bound (least_row scope bound i r rest)
+  row_above : (i : ℕ) (r : Row) (rest : Option Listed) → Above bound rest → Above bound (least_row scope bound i r rest)
   row_above i r rest a =
-      pick_all (Above bound) (eqb (tag_scope r) scope)
-      (by_test (ltb (tag_id r) bound) (λ t. rw t a) (λ t. rw t (nearer_above i (tag_id r) rest (ltb-false (tag_id r) bound t) a))) a
+      by_test (both (eqb (tag_scope r) scope) (leb bound (tag_id r)))
+      (λ t. rw t (nearer_above (listed i (tag_id r)) rest (leb-true bound (tag_id r) (both_true _ _ t).1) a))
+      (λ t. rw t a)
 
-  least_above : (i : ℕ) (rows : List Row) → Above bound (fold (least_row scope bound) Empty i rows)
+  least_above : (i : ℕ) (rows : List Row) → Above bound (fold (least_row scope bound) None i rows)
   unfolding fold
   least_above i [] = tt
   least_above i (r ∷ rows) = row_above i r _ (least_above (suc i) rows)
 
-  nearest_above : (a b : Least) → Above bound a → Above bound b → NextAbove bound (nearest a b)
-  nearest_above Empty Empty x y = tt
-  nearest_above Empty (Of j k) x y = y
-  nearest_above (Of i id) Empty x y = x
-  nearest_above (Of i id) (Of j k) x y = pick_all (NextAbove bound) (ltb id k) x y
+  nearest_above : (a b : Option Listed) → Above bound a → Above bound b → NextAbove bound (nearest a b)
+  nearest_above None None x y = tt
+  nearest_above None (Some o) x y = y
+  nearest_above (Some t) None x y = x
+  nearest_above (Some t) (Some o) x y = pick_all (NextAbove bound) (ltb t.id o.id) x y
 
   next_above : (tags others : List Row) → NextAbove bound (next_in tags others scope bound)
   unfolding least_in
   next_above tags others = nearest_above (least_in scope bound tags) (least_in scope bound others) (least_above 0 tags) (least_above 0 others)
 
-  module _ (tags others : List Row) (found : Next) (is : found ≡ next_in tags others scope bound) where
-    pub tag_above : {i id : ℕ} → found ≡ Tag i id → bound ≤ id
-    tag_above q = rw (← is, q) at (next_above tags others)
-
-    pub start_tag : {i id : ℕ} (start : ℕ) → found ≡ Tag i id → start ≡ bound → At start ≡ start_by bound (next_in tags others scope bound)
-    start_tag start q e = rw (← is, q, e) refl
-
-    pub start_other : {i id : ℕ} (start : ℕ) → found ≡ Other i id → start ≡ bound → At start ≡ start_by bound (next_in tags others scope bound)
-    start_other start q e = rw (← is, q, e) refl
-
-    pub start_none : found ≡ Nothing → Nowhere ≡ start_by bound (next_in tags others scope bound)
-    start_none q = rw (← is, q) refl
-
-    pub other_above : {i id : ℕ} → found ≡ Other i id → bound ≤ id
-    other_above q = rw (← is, q) at (next_above tags others)
+  pub next-id : (tags others : List Row) {n : Next} {r : Listed} → Some n ≡ next_in tags others scope bound → (n ≡ Tag r) ⊎ (n ≡ Other r) → bound ≤ r.id
+  next-id tags others e (inl q) = rw (← e, q) at (next_above tags others)
+  next-id tags others e (inr q) = rw (← e, q) at (next_above tags others)
 
 module _ (t : Tables) (scope : ℕ) (attributes : List ℕ) (start bound : ℕ) (listed left : List Entry)
     (here : (bound ≡ next_id start listed) × (due t scope attributes bound ≡ left)) where
-  starts_by : (n : Next) → NextDue scope attributes t bound n → StartsAt t scope attributes start listed left (start_by bound n)
-  starts_by Nothing (none_due e) = sym here.1 ∙ e
-  starts_by (Tag i id) (tag_due h q e) = here
-  starts_by (Other i id) (other_due h q e) = here
+  starts_by : (n : Option Next) → NextDue scope attributes t bound n → StartsAt t scope attributes start listed left (start_by bound n)
+  starts_by None (none_due e) = sym here.1 ∙ e
+  starts_by (Some (Tag r)) d = here
+  starts_by (Some (Other r)) d = here
 
-  pub starts_next : (memory : ℕ) → valid t memory ≡ true → (r : PageStart) → r ≡ start_by bound (next_in t.tags t.others scope bound)
+  pub starts_next : (memory : ℕ) → valid t memory ≡ true → (r : Option ℕ) → r ≡ start_by bound (next_in t.tags t.others scope bound)
       → StartsAt t scope attributes start listed left r
   starts_next memory v r e = rw e (starts_by _ (next_due scope attributes t memory v bound))

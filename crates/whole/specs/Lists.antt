@@ -1,7 +1,7 @@
 -- A whole list: the continued symbol pages of point 3, asked for by the program itself. What it comes to, and what the lent
 -- buffer and the reply buffer hold afterwards: the joined bytes are the entries of all symbols of the scope, ascending by ID, whatever the limit.
 use Rattle.std.specs.Prelude.{Bool, not, List, [], ◌∷◌, ◌++◌, ℕ, suc, ◌+◌, ◌-◌, ◌/◌, ◌%◌, max, ltb, leb, eqb, length, drop}
-use Rattle.std.proofs.Math.Option.{Option, none, some}
+use Rattle.std.specs.Prelude.{Option, None, Some, Ok, Err}
 use Rattle.laws.specs.Pick.{pick, both}
 use Rattle.laws.specs.Put.{put, laid}
 use Rattle.laws.specs.Tests.{every}
@@ -10,27 +10,26 @@ use Rattle.definition.specs.Bytes.{le32, counted}
 use Rattle.definition.specs.Reply.{room}
 use Rattle.definition.specs.Tables.{Tables, Flags}
 use Rattle.definition.specs.Lookup.{program_of}
-use Rattle.definition.specs.Valid.{valid}
 use Rattle.definition.specs.Page.{Entry, bytes_of, fitting, page_reply}
 use Rattle.definition.specs.Symbols.{is_listed, due}
 use Rattle.definition.specs.Answer.{answer}
-use Rattle.whole.specs.declared.Whole.TheVariants.{Joined, TooShort, TooNarrow, Turned, Refused, Unsendable}
-use Rattle.whole.specs.Whole.{Received, received, status_in}
+use Rattle.whole.specs.declared.Unjoined.TheVariants.{TooShort, TooNarrow, Turned, Unsendable}
+use Rattle.whole.specs.Whole.{Received, received, status_in, entered, unless_refused}
 
 -- ---- what is asked for
 
 -- the scope: the controller's where no name is given
 abbrev pub scope_named : Option ℕ → Option ℕ
-scope_named none = none
-scope_named (some k) = some (suc k)
+scope_named None = None
+scope_named (Some k) = Some (suc k)
 
 unfoldable pub scope_of : Tables → (program : List ℕ) → Option ℕ
-scope_of t program = pick (eqb (length program) 0) (some 0) (scope_named (program_of t program))
+scope_of t program = pick (eqb (length program) 0) (Some 0) (scope_named (program_of t program))
 
 abbrev pub entries_in : Tables → (scope : Option ℕ) → (numbers : Option (List ℕ)) → Option (List Entry)
-entries_in t none numbers = none
-entries_in t (some scope) none = none
-entries_in t (some scope) (some numbers) = pick (every is_listed numbers) (some (due t scope numbers 0)) none
+entries_in t None numbers = None
+entries_in t (Some scope) None = None
+entries_in t (Some scope) (Some numbers) = pick (every is_listed numbers) (Some (due t scope numbers 0)) None
 
 -- all entries of the scope; none where the scope is unknown, the list of attributes short, or one of its numbers unknown
 unfoldable pub entries_of : Tables → (program attributes : List ℕ) → Option (List Entry)
@@ -77,18 +76,16 @@ last_page limit entries = until (λ es. eqb (fitting (limit - 4) es) (length es)
 
 -- `first`: the reply to a page from ID 0 on, the only one where no page is granted
 unfoldable pub whole_of_list : Option (List Entry) → (first : List ℕ) (limit : ℕ) (buffer out : List ℕ) → Received
-whole_of_list none first limit buffer out = received (Turned (status_in first)) out (laid (room limit) buffer first)
-whole_of_list (some entries) first limit buffer out =
+whole_of_list None first limit buffer out = received (Err (Turned (status_in first))) out (laid (room limit) buffer first)
+whole_of_list (Some entries) first limit buffer out =
     let bytes = bytes_of entries in
-    pick (ltb limit (4 + longest entries)) (received TooNarrow out buffer)
-    (pick (ltb (length out) (length bytes)) (received (TooShort (length bytes)) out buffer)
-    (received (Joined (length bytes)) (put out 0 bytes) (laid (room limit) buffer (page_reply 0x55 (last_page limit entries) limit))))
+    pick (ltb limit (4 + longest entries)) (received (Err TooNarrow) out buffer)
+    (pick (ltb (length out) (length bytes)) (received (Err (TooShort (length bytes))) out buffer)
+    (received (Ok (length bytes)) (put out 0 bytes) (laid (room limit) buffer (page_reply 0x55 (last_page limit entries) limit))))
 
 -- `buffer` is the reply buffer; where nothing is sent, it stays as it was
 unfoldable pub whole_list : Tables → Flags → (memory program attributes : List ℕ) (limit : ℕ) (buffer out : List ℕ) → Received
 whole_list t f memory program attributes limit buffer out =
-    pick (not (is_askable program attributes)) (received Unsendable out buffer)
-    (pick (ltb 65535 limit) (received (Refused 2) out buffer)
-    (pick (ltb (length buffer) (room limit)) (received (Refused 3) out buffer)
-    (pick (not (valid t (length memory))) (received (Refused 4) out buffer)
-    (whole_of_list (entries_of t program attributes) (first_page t f memory program attributes limit) limit buffer out))))
+    pick (not (is_askable program attributes)) (received (Err Unsendable) out buffer)
+    (unless_refused (entered t (length memory) limit (length buffer)) buffer out
+    (whole_of_list (entries_of t program attributes) (first_page t f memory program attributes limit) limit buffer out))

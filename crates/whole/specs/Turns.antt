@@ -1,54 +1,25 @@
 -- What is known of a page before it is asked for, what one page brings, and the walk over the entries due.
-use Rattle.std.specs.Prelude.{◌≡◌, true, List, [], ◌∷◌, ℕ, suc, ◌+◌, ◌-◌, ◌*◌, ◌≤◌, ◌<◌, eqb, length, take, drop}
-use Rattle.std.proofs.Math.Option.{Option, none, some}
-use Rattle.laws.specs.Pick.{pick}
+use Rattle.std.specs.Prelude.{◌≡◌, true, List, [], ◌∷◌, ℕ, suc, ◌+◌, ◌-◌, ◌≤◌, ◌<◌, length, take}
+use Rattle.std.specs.Prelude.{Option, None, Some}
 use Rattle.laws.specs.Put.{put}
 use Rattle.laws.specs.Tests.{every}
-use Rattle.definition.specs.Bytes.{numbers, counted}
+use Rattle.definition.specs.Bytes.{counted}
 use Rattle.definition.specs.Reply.{room}
-use Rattle.definition.specs.Tables.{Tables, Row}
+use Rattle.definition.specs.Tables.{Tables}
 use Rattle.definition.specs.Valid.{valid}
 use Rattle.definition.specs.Page.{Entry, id_of, bytes_of, fitting}
 use Rattle.definition.specs.Symbols.{is_listed, due}
+use Rattle.definition.specs.Answer.{answer}
+use Rattle.model.specs.Tables.{tables_of, flags_of}
+use Rattle.model.specs.declared.Controller.{Controller}
 use Rattle.model.specs.declared.least.Next.{Next}
-use Rattle.model.specs.declared.least.Next.TheVariants.{Tag, Other, Nothing}
-use Rattle.listing.specs.Objects.{program_by, count_in}
-use Rattle.listing.specs.declared.attributes.Count.{Count}
-use Rattle.listing.specs.declared.attributes.Count.TheVariants.{Of, Missing}
-use Rattle.whole.specs.declared.lists.Scope.{Scope}
-use Rattle.whole.specs.declared.lists.Scope.TheVariants.{In, Unknown}
-use Rattle.whole.specs.declared.lists.Asked.{Asked}
-use Rattle.whole.specs.declared.lists.Asked.TheVariants as asked
-use Rattle.whole.specs.declared.walks.Measure.{Measure}
-use Rattle.whole.specs.declared.walks.Measure.TheVariants.{Total, Narrow}
-use Rattle.whole.specs.declared.walks.PageStart.{PageStart}
-use Rattle.whole.specs.declared.walks.PageStart.TheVariants.{At, Nowhere}
+use Rattle.listing.specs.Numbers.{numbers_in}
+use Rattle.listing.specs.declared.numbers.Numbers.{Numbers}
+use Rattle.listing.specs.declared.pages.Page.{Page}
+use Rattle.whole.specs.declared.pages.Listing.{Listing}
 use Rattle.whole.specs.declared.joins.Turn.{Turn}
 use Rattle.whole.specs.declared.joins.Turn.TheVariants.{Last, More}
-use Rattle.whole.specs.Lists.{is_askable, scope_named, scope_of, longest}
-
--- ---- the scope and the list of attributes, by the tables that they use
-
-abbrev pub in_scope : Scope → Option ℕ
-in_scope (In scope) = some scope
-in_scope Unknown = none
-
-unfoldable pub scope_by : (programs : List Row) (names program : List ℕ) → Option ℕ
-scope_by programs names program = pick (eqb (length program) 0) (some 0) (scope_named (program_by programs names program))
-
--- a list that is long enough and of which every number is known
-abbrev pub accepted_by : (attributes : List ℕ) → Count → Count
-accepted_by attributes Missing = Missing
-accepted_by attributes (Of n) = pick (every is_listed (numbers n (drop 2 attributes))) (Of n) Missing
-
-unfoldable pub accepted_in : (attributes : List ℕ) → Count
-accepted_in attributes = accepted_by attributes (count_in attributes)
-
--- both of them, or nothing is granted
-abbrev pub asked_by : (scope : Option ℕ) → Count → Asked
-asked_by none accepted = asked.Nothing
-asked_by (some scope) Missing = asked.Nothing
-asked_by (some scope) (Of n) = asked.Of scope n
+use Rattle.whole.specs.Lists.{is_askable, scope_of, entries_of, list_request, longest}
 
 -- ---- a page that the entry takes, and one that is granted
 
@@ -58,18 +29,44 @@ pub record Askable (t : Tables) (memory program attributes : List ℕ) (limit bu
   pub has_room : room limit ≤ buffer
   pub tables : valid t (length memory) ≡ true
 
-pub record Granted (t : Tables) (program attributes : List ℕ) (scope n : ℕ) : Type 0 where
-  pub scope_is : scope_of t program ≡ some scope
-  pub list_fits : 2 + 2 * n ≤ length attributes
-  pub numbers_are : counted attributes ≡ some (numbers n (drop 2 attributes))
-  pub accepted : every is_listed (numbers n (drop 2 attributes)) ≡ true
+pub record Granted (t : Tables) (program attributes : List ℕ) (scope : ℕ) (numbers : List ℕ) : Type 0 where
+  pub scope_is : scope_of t program ≡ Some scope
+  pub numbers_are : counted attributes ≡ Some numbers
+  pub accepted : every is_listed numbers ≡ true
+
+-- ---- a list of numbers that is long enough and of which every number is known
+
+abbrev pub Accepted : (attributes : List ℕ) → Option Numbers → Type 0
+Accepted attributes None = (t : Tables) (program : List ℕ) → entries_of t program attributes ≡ None
+Accepted attributes (Some numbers) = (counted attributes ≡ Some (numbers_in numbers)) × (every is_listed (numbers_in numbers) ≡ true)
+
+-- ---- the same of a controller, a listing and a page as the code has them
+
+abbrev pub ListTaken : Controller → (memory : List ℕ) → Listing → (limit buffer : ℕ) → Type 0
+ListTaken c memory listing limit buffer = Askable (tables_of c.tables) memory listing.program.now listing.attributes.now limit buffer
+
+abbrev pub ListGranted : Tables → Listing → Page → Type 0
+ListGranted t listing page = Granted t listing.program.now listing.attributes.now page.start.scope (numbers_in page.numbers)
+
+-- the first page, where one is granted; else there are no entries
+abbrev pub FirstPage : Tables → Listing → Option Page → Type 0
+FirstPage t listing None = entries_of t listing.program.now listing.attributes.now ≡ None
+FirstPage t listing (Some page) = ListGranted t listing page × (page.start.id ≡ 0)
+
+-- what it is answered with from an ID on
+abbrev pub answer_at : Controller → (memory : List ℕ) → Listing → (id limit : ℕ) → List ℕ
+answer_at c memory listing id limit =
+    (answer (tables_of c.tables) (flags_of c.flags) memory (list_request listing.program.now listing.attributes.now id) limit).reply
+
+abbrev pub due_on : Tables → Page → List Entry
+due_on t page = due t page.start.scope (numbers_in page.numbers) page.start.id
 
 -- ---- the walk over the entries due
 
 -- all bytes of them and room for the longest, or an entry that is too long
-abbrev pub Measured : List Entry → (limit : ℕ) → Measure → Type 0
-Measured entries limit (Total n) = (n ≡ length (bytes_of entries)) × (4 + longest entries ≤ limit)
-Measured entries limit Narrow = limit < 4 + longest entries
+abbrev pub Measured : List Entry → (limit : ℕ) → Option ℕ → Type 0
+Measured entries limit (Some n) = (n ≡ length (bytes_of entries)) × (4 + longest entries ≤ limit)
+Measured entries limit None = limit < 4 + longest entries
 
 -- what a page lists
 abbrev pub front : (limit : ℕ) → List Entry → List Entry
@@ -81,15 +78,14 @@ next_id start [] = start
 next_id start (e ∷ es) = next_id (suc (id_of e)) es
 
 -- a bound that something is due from is a start ID
-abbrev pub start_by : (bound : ℕ) → Next → PageStart
-start_by bound (Tag i id) = At bound
-start_by bound (Other i id) = At bound
-start_by bound Nothing = Nowhere
+abbrev pub start_by : (bound : ℕ) → Option Next → Option ℕ
+start_by bound None = None
+start_by bound (Some next) = Some bound
 
 -- the page behind a page starts at the last listed ID plus one, where what is left is due, or nothing is left
-abbrev pub StartsAt : Tables → (scope : ℕ) (attributes : List ℕ) (start : ℕ) (listed left : List Entry) → PageStart → Type 0
-StartsAt t scope attributes start listed left (At id) = (id ≡ next_id start listed) × (due t scope attributes id ≡ left)
-StartsAt t scope attributes start listed left Nowhere = left ≡ []
+abbrev pub StartsAt : Tables → (scope : ℕ) (attributes : List ℕ) (start : ℕ) (listed left : List Entry) → Option ℕ → Type 0
+StartsAt t scope attributes start listed left (Some id) = (id ≡ next_id start listed) × (due t scope attributes id ≡ left)
+StartsAt t scope attributes start listed left None = left ≡ []
 
 -- ---- one page's entries, joined at the number of bytes received: all that are due, or as many as fit
 
@@ -100,5 +96,5 @@ BringsPage entries limit got old (More n) new =
     (n ≡ got + length (bytes_of (front limit entries))) × (got < n) × (new ≡ put old got (bytes_of (front limit entries)))
     × (fitting (limit - 4) entries < length entries)
 
-pub record Page (entries : List Entry) (limit got : ℕ) (old : List ℕ) (v : Turn) (new : List ℕ) : Type 0 where
+pub record Paged (entries : List Entry) (limit got : ℕ) (old : List ℕ) (v : Turn) (new : List ℕ) : Type 0 where
   pub is : BringsPage entries limit got old v new

@@ -3,14 +3,13 @@ ghost use Rattle.std.specs.Prelude.{◌≡◌, ◌<◌, length};
 ghost use Rattle.laws.specs.Put.{laid};
 ghost use Rattle.definition.specs.Reply.{room};
 ghost use Rattle.definition.specs.Fragment.{space};
-ghost use Rattle.definition.specs.Answer.{answer};
 ghost use Rattle.cip.specs.Writes.{Written};
-ghost use Rattle.continued.specs.Point3.{read_request};
-ghost use Rattle.model.specs.Tables.{tables_of, flags_of};
-ghost use Rattle.whole.specs.Whole.{chosen, first_reply, status_in};
-ghost use Rattle.whole.specs.Parts.{chosen_bytes, last_of, Sendable, Joinable, Brings};
+ghost use Rattle.whole.specs.Whole.{status_in};
+ghost use Rattle.whole.specs.Parts.{chosen_in, selected_in, reply_at, last_of, ReadTaken, ReadJoins, Brings};
 
-use model::Flags;
+use crate::ReplyStatus;
+use crate::requests::Read;
+use model::Controller;
 
 /// How many bytes are received after a reply, and whether more are due.
 #[derive(Clone, Copy)]
@@ -19,71 +18,42 @@ pub enum Turn {
     More(usize),
 }
 
-/// The status of a reply to a read from the start, with its extended word; the reply stays in `buf`.
+/// The status of a reply to a read from the start; the reply stays in `buf`.
 pub fn first_status(
-    structures: &[[u32; 10]],
-    members: &[[u32; 9]],
-    programs: &[[u32; 2]],
-    tags: &[[u32; 12]],
-    others: &[[u32; 5]],
-    names: &[u8],
-    tag_names: &[u8],
-    templates: &[u8],
-    flags: Flags,
+    c: &Controller,
     memory: &mut [u8],
-    path: &[u8],
-    elements: u16,
+    read: &Read,
     limit: usize,
     buf: &mut [u8],
-) -> u32
-    requires { let t = tables_of structures.now members.now programs.now tags.now others.now names.now tag_names.now templates.now in
-        Sendable t memory.old path.now limit (length buf.old) }
-    ensures { let t = tables_of structures.now members.now programs.now tags.now
-        others.now names.now tag_names.now templates.now in
-        let first = first_reply t (flags_of flags) memory.old path.now elements limit in
-        (result ≡ status_in first) × (memory.new ≡ memory.old) × (buf.new ≡ laid (room limit) buf.old first) }
+) -> ReplyStatus
+    requires { ReadTaken c.now memory.old read.now limit (length buf.old) }
+    ensures status { result ≡ status_in (reply_at c.now memory.old read.now 0 limit) }
+    ensures memory { memory.new ≡ memory.old }
+    ensures buffer { buf.new ≡ laid (room limit) buf.old (reply_at c.now memory.old read.now 0 limit) }
 {
-    crate::requests::send_read(
-        structures, members, programs, tags, others, names, tag_names, templates, flags, memory,
-        path, elements, 0, limit, buf,
-    );
-    crate::requests::status_in(buf)
+    read.send(c, memory, 0, limit, buf);
+    ReplyStatus::of(buf)
 }
 
 /// Sends the read at the number of bytes received, and joins what the reply brings.
 fn join_part(
-    structures: &[[u32; 10]],
-    members: &[[u32; 9]],
-    programs: &[[u32; 2]],
-    tags: &[[u32; 12]],
-    others: &[[u32; 5]],
-    names: &[u8],
-    tag_names: &[u8],
-    templates: &[u8],
-    flags: Flags,
+    c: &Controller,
     memory: &mut [u8],
-    path: &[u8],
-    elements: u16,
+    read: &Read,
+    header: usize,
+    got: usize,
     limit: usize,
     buf: &mut [u8],
     out: &mut [u8],
-    header: usize,
-    got: usize,
 ) -> Turn
-    requires { let t = tables_of structures.now members.now programs.now tags.now others.now names.now tag_names.now templates.now in
-        Sendable t memory.old path.now limit (length buf.old) × Joinable t (flags_of flags) memory.old path.now elements limit header
-        (length out.old) × (got < length (chosen_bytes memory.old (chosen t (flags_of flags) path.now elements))) }
-    ensures { let t = tables_of structures.now members.now programs.now tags.now
-        others.now names.now tag_names.now templates.now in
-        let selected = chosen_bytes memory.old (chosen t (flags_of flags) path.now elements) in
-        let sent = (answer t (flags_of flags) memory.old (read_request path.now elements got) limit).reply in
-        Brings (space header limit) selected got out.old result out.new × (memory.new ≡ memory.old)
-        × (buf.new ≡ laid (room limit) buf.old sent) }
+    requires taken { ReadTaken c.now memory.old read.now limit (length buf.old) }
+    requires joins { ReadJoins c.now memory.old read.now limit header (length out.old) }
+    requires due { got < length (selected_in c.now memory.old read.now) }
+    ensures brings { Brings (space header limit) (selected_in c.now memory.old read.now) got out.old result out.new }
+    ensures memory { memory.new ≡ memory.old }
+    ensures buffer { buf.new ≡ laid (room limit) buf.old (reply_at c.now memory.old read.now got limit) }
 {
-    let n = crate::requests::send_read(
-        structures, members, programs, tags, others, names, tag_names, templates, flags, memory,
-        path, elements, got, limit, buf,
-    );
+    let n = read.send(c, memory, got, limit, buf);
     let first = 4 + header;
     cip::copy_into(out, got, &buf[first..n]);
     let end = got + (n - first);
@@ -93,46 +63,27 @@ fn join_part(
     Turn::More(end)
 }
 
-/// Reads until nothing more is due; the last reply stays in `buf`.
+/// Reads until nothing more is due; returns how many bytes are joined. The last reply stays in `buf`.
 pub fn join_all(
-    structures: &[[u32; 10]],
-    members: &[[u32; 9]],
-    programs: &[[u32; 2]],
-    tags: &[[u32; 12]],
-    others: &[[u32; 5]],
-    names: &[u8],
-    tag_names: &[u8],
-    templates: &[u8],
-    flags: Flags,
+    c: &Controller,
     memory: &mut [u8],
-    path: &[u8],
-    elements: u16,
+    read: &Read,
+    header: usize,
     limit: usize,
     buf: &mut [u8],
     out: &mut [u8],
-    header: usize,
 ) -> usize
-    requires { let t = tables_of structures.now members.now programs.now tags.now others.now names.now tag_names.now templates.now in
-        Sendable t memory.old path.now limit (length buf.old) × Joinable t (flags_of flags) memory.old path.now elements limit header
-        (length out.old) }
-    ensures { let t = tables_of structures.now members.now programs.now tags.now
-        others.now names.now tag_names.now templates.now in
-        let o = chosen t (flags_of flags) path.now elements in
-        Written 0 (chosen_bytes memory.old o) out.old result out.new × (memory.new ≡ memory.old)
-        × (buf.new ≡ laid (room limit) buf.old (last_of memory.old limit o)) }
+    requires taken { ReadTaken c.now memory.old read.now limit (length buf.old) }
+    requires joins { ReadJoins c.now memory.old read.now limit header (length out.old) }
+    ensures joined { Written 0 (selected_in c.now memory.old read.now) out.old result out.new }
+    ensures memory { memory.new ≡ memory.old }
+    ensures buffer { buf.new ≡ laid (room limit) buf.old (last_of memory.old limit (chosen_in c.now read.now)) }
 {
     let mut got = 0;
     loop {
-        match join_part(
-            structures, members, programs, tags, others, names, tag_names, templates, flags,
-            memory, path, elements, limit, buf, out, header, got,
-        ) {
-            Turn::More(n) => {
-                got = n;
-            }
-            Turn::Last(n) => {
-                return n;
-            }
+        match join_part(c, memory, read, header, got, limit, buf, out) {
+            Turn::More(n) => got = n,
+            Turn::Last(n) => return n,
         }
     }
 }

@@ -9,124 +9,135 @@ pub mod requests;
 pub mod sizes;
 pub mod walks;
 
-ghost use Rattle.std.specs.Prelude.{◌≡◌, length};
+ghost use Rattle.std.specs.Prelude.{◌≡◌, ◌≤◌, length};
 ghost use Rattle.model.specs.Tables.{tables_of, flags_of};
-ghost use Rattle.whole.specs.Whole.{chosen, first_reply, received, whole_of, whole_read};
-ghost use Rattle.whole.specs.Parts.{Sendable};
+ghost use Rattle.whole.specs.Whole.{word_in, status_in, code_of, received, entered, whole_of, whole_read};
+ghost use Rattle.whole.specs.Parts.{chosen_in, reply_at, ReadTaken};
 
-use model::Flags;
-use sizes::Size;
+use crate::requests::Read;
+use logix::entry::Refusal;
+use model::Controller;
 
-/// What a whole read or a whole list comes to.
+/// The largest limit.
+const MOST: usize = 65535;
+
+/// The general status of a reply, and its extended word where it has one.
 #[derive(Clone, Copy)]
-pub enum Whole {
-    /// So many bytes: all that are selected, or the entries of all symbols.
-    Joined(usize),
-    /// The lent buffer is shorter than these bytes: nothing was joined.
+pub struct ReplyStatus {
+    pub general: u8,
+    pub word: Option<u16>,
+}
+
+impl ReplyStatus {
+    /// The status of a reply that lies at the start of a buffer.
+    pub fn of(reply: &[u8]) -> ReplyStatus
+        requires { 8 ≤ length reply.now }
+        ensures { result ≡ status_in reply.now }
+    {
+        ReplyStatus {
+            general: reply[2],
+            word: word_in(reply),
+        }
+    }
+
+    /// The general status, plus 256 times the extended word where there is one.
+    pub fn code(self) -> u32
+        ensures { result ≡ code_of self }
+    {
+        u32::from(self.general) + 256 * u32::from(self.word.unwrap_or(0))
+    }
+}
+
+#[tactic(auto, using(laws::proofs::Chain::chain), unfolding(crate::specs::Whole::word_in))]
+fn word_in(reply: &[u8]) -> Option<u16>
+    requires { 8 ≤ length reply.now }
+    ensures { result ≡ word_in reply.now }
+{
+    if reply[3] == 0 {
+        return None;
+    }
+    Some(cip::u16_at(reply, 4))
+}
+
+/// Why nothing was joined.
+#[derive(Clone, Copy)]
+pub enum Unjoined {
+    /// The lent buffer is shorter than these bytes.
     TooShort(usize),
-    /// The limit leaves no room behind the header for a byte, or for the longest entry: nothing was joined.
+    /// The limit leaves no room behind the header for a byte, or for the longest entry.
     TooNarrow,
-    /// The controller turns the first request away: nothing was joined. The general status, plus 256 times the extended word, 0 where
-    /// there is none.
-    Turned(u32),
-    /// An entry refusal by its number (2: limit, 3: reply buffer, 4: tables).
-    Refused(u32),
+    /// The controller turns the first request away.
+    Turned(ReplyStatus),
+    /// The entry refuses the limit, the reply buffer or the tables.
+    Refused(Refusal),
     /// A path of an odd number of bytes or of more than 255 words; a program's name of more than 255 bytes, or a list of attributes of
     /// more than 1,024.
     Unsendable,
 }
 
+/// The entry's refusals that are no matter of the request.
+fn enter(c: &Controller, memory: &[u8], limit: usize, buf: &[u8]) -> Result<(), Refusal>
+    ensures { result ≡ entered (tables_of c.now.tables) (length memory.now) limit (length buf.now) }
+{
+    if limit > MOST {
+        return Err(Refusal::LimitTooLarge);
+    }
+    if buf.len() < cip::room_of(limit) {
+        return Err(Refusal::BufferTooShort);
+    }
+    if !tables::valid(&c.tables, memory) {
+        return Err(Refusal::TablesInvalid);
+    }
+    Ok(())
+}
+
 /// A whole read that the entry takes.
 fn read_sendable(
-    structures: &[[u32; 10]],
-    members: &[[u32; 9]],
-    programs: &[[u32; 2]],
-    tags: &[[u32; 12]],
-    others: &[[u32; 5]],
-    names: &[u8],
-    tag_names: &[u8],
-    templates: &[u8],
-    flags: Flags,
+    c: &Controller,
     memory: &mut [u8],
-    path: &[u8],
-    elements: u16,
+    read: &Read,
     limit: usize,
     buf: &mut [u8],
     out: &mut [u8],
-) -> Whole
-    requires { let t = tables_of structures.now members.now programs.now tags.now others.now names.now tag_names.now templates.now in
-        Sendable t memory.old path.now limit (length buf.old) }
-    ensures { let t = tables_of structures.now members.now programs.now tags.now
-        others.now names.now tag_names.now templates.now in
-        let first = first_reply t (flags_of flags) memory.old path.now elements limit in
-        (received result out.new buf.new ≡ whole_of (chosen t (flags_of flags) path.now elements) first
-        memory.old limit buf.old out.old) × (memory.new ≡ memory.old) }
+) -> Result<usize, Unjoined>
+    requires { ReadTaken c.now memory.old read.now limit (length buf.old) }
+    ensures whole { received result out.new buf.new ≡ whole_of (chosen_in c.now read.now) (reply_at c.now memory.old read.now 0 limit)
+        memory.old limit buf.old out.old }
+    ensures memory { memory.new ≡ memory.old }
 {
-    match sizes::selected_size(
-        structures, members, programs, tags, others, names, tag_names, templates, flags, memory,
-        path, elements,
-    ) {
-        Size::Nothing => {
-            return Whole::Turned(joins::first_status(
-                structures, members, programs, tags, others, names, tag_names, templates, flags,
-                memory, path, elements, limit, buf,
-            ));
-        }
-        Size::Of(n, header) => {
-            if limit < 5 + header {
-                return Whole::TooNarrow;
-            }
-            if out.len() < n {
-                return Whole::TooShort(n);
-            }
-            return Whole::Joined(joins::join_all(
-                structures, members, programs, tags, others, names, tag_names, templates, flags,
-                memory, path, elements, limit, buf, out, header,
-            ));
-        }
+    let Some(size) = sizes::selected_size(c, memory, read) else {
+        let status = joins::first_status(c, memory, read, limit, buf);
+        return Err(Unjoined::Turned(status));
+    };
+    if limit < 5 + size.header {
+        return Err(Unjoined::TooNarrow);
     }
+    if out.len() < size.bytes {
+        return Err(Unjoined::TooShort(size.bytes));
+    }
+    Ok(joins::join_all(c, memory, read, size.header, limit, buf, out))
 }
 
 /// Reads all of what a path and an element count select into `out`: sends reads at the number of bytes
-/// received and joins their data until status 0, or says why not. `buf` is the reply buffer: the last reply stays in it.
+/// received and joins their data until status 0, and returns how many bytes they are; or says why not. `buf` is the reply buffer: the last
+/// reply stays in it.
 pub fn read_whole(
-    structures: &[[u32; 10]],
-    members: &[[u32; 9]],
-    programs: &[[u32; 2]],
-    tags: &[[u32; 12]],
-    others: &[[u32; 5]],
-    names: &[u8],
-    tag_names: &[u8],
-    templates: &[u8],
-    flags: Flags,
+    c: &Controller,
     memory: &mut [u8],
-    path: &[u8],
-    elements: u16,
+    read: &Read,
     limit: usize,
     buf: &mut [u8],
     out: &mut [u8],
-) -> Whole
-    ensures { let t = tables_of structures.now members.now programs.now tags.now
-        others.now names.now tag_names.now templates.now in
-        (received result out.new buf.new ≡ whole_read t (flags_of flags) memory.old path.now elements limit
-        buf.old out.old) × (memory.new ≡ memory.old) }
+) -> Result<usize, Unjoined>
+    ensures whole { received result out.new buf.new ≡ whole_read (tables_of c.now.tables) (flags_of c.now.flags) memory.old
+        read.now.path.now read.now.elements limit buf.old out.old }
+    ensures memory { memory.new ≡ memory.old }
 {
-    if !requests::is_sendable(path) {
-        return Whole::Unsendable;
+    if !read.is_sendable() {
+        return Err(Unjoined::Unsendable);
     }
-    if limit > 65535 {
-        return Whole::Refused(2);
+    if let Err(why) = enter(c, memory, limit, buf) {
+        return Err(Unjoined::Refused(why));
     }
-    if buf.len() < cip::room_of(limit) {
-        return Whole::Refused(3);
-    }
-    if !tables::valid(
-        structures, members, programs, tags, others, names, tag_names, templates, memory,
-    ) {
-        return Whole::Refused(4);
-    }
-    read_sendable(
-        structures, members, programs, tags, others, names, tag_names, templates, flags, memory,
-        path, elements, limit, buf, out,
-    )
+    read_sendable(c, memory, read, limit, buf, out)
 }

@@ -2,200 +2,122 @@
 ghost use Rattle.std.specs.Prelude.{◌≡◌, ◌≤◌, length};
 ghost use Rattle.model.specs.Tables.{tables_of, flags_of};
 ghost use Rattle.whole.specs.Whole.{received};
-ghost use Rattle.whole.specs.Lists.{entries_of, first_page, whole_of_list, whole_list};
-ghost use Rattle.whole.specs.Turns.{in_scope, scope_by, accepted_in, asked_by, Askable, Granted};
+ghost use Rattle.whole.specs.Lists.{scope_of, entries_of, whole_of_list, whole_list};
+ghost use Rattle.whole.specs.Turns.{Accepted, ListTaken, ListGranted, FirstPage, answer_at};
 
-use crate::walks::Measure;
-use crate::{Whole, pages, walks};
+use crate::pages::Listing;
+use crate::{Unjoined, pages, walks};
 use cip::replies::HEADER;
-use listing::attributes::Count;
-use model::Flags;
-use model::lookup::Found;
+use listing::numbers::Numbers;
+use listing::pages::{Page, Start};
+use model::{Controller, Tables};
 
-/// A scope: 0 is the controller's, a program's is its position plus one.
-#[derive(Clone, Copy)]
-enum Scope {
-    In(u32),
-    Unknown,
-}
-
-/// The scope and the number of attributes that a page accepts; nothing where it turns one of them away.
-#[derive(Clone, Copy)]
-enum Asked {
-    Of(u32, usize),
-    Nothing,
-}
-
-/// The scope that a program's name means; no name means the controller's.
-fn scope_of(programs: &[[u32; 2]], names: &[u8], program: &[u8]) -> Scope
-    requires { length programs.now ≤ 65535 }
-    ensures { in_scope result ≡ scope_by programs.now names.now program.now }
+/// The scope that a program's name means: 0 is the controller's, which no name means, and a program's is its position plus one.
+fn scope_of(t: &Tables, program: &[u8]) -> Option<u32>
+    requires { length t.now.programs.now ≤ 65535 }
+    ensures { result ≡ scope_of (tables_of t.now) program.now }
 {
-    if program.len() == 0 {
-        return Scope::In(0);
+    if program.is_empty() {
+        return Some(0);
     }
-    match listing::attributes::program_of(programs, names, program) {
-        Found::At(k) => {
-            return Scope::In(k as u32 + 1);
-        }
-        Found::Nothing => {
-            return Scope::Unknown;
-        }
-    }
+    let k = listing::attributes::program_of(t, program)?;
+    Some(k as u32 + 1)
 }
 
-/// How many numbers a list of attributes has that a page accepts.
-fn accepted(attributes: &[u8]) -> Count
-    ensures { result ≡ accepted_in attributes.now }
+/// The numbers of a list that a page accepts.
+fn accepted<'a>(attributes: &'a [u8]) -> Option<Numbers<'a>>
+    ensures { Accepted attributes.now result }
 {
-    let Count::Of(n) = listing::attributes::count_of(attributes) else {
-        return Count::Missing;
-    };
-    if listing::pages::all_listed(attributes, cip::numbers::wide16(n)) {
-        return Count::Of(n);
+    let numbers = Numbers::read(attributes)?;
+    if !numbers.all_listed() {
+        return None;
     }
-    Count::Missing
+    Some(numbers)
 }
 
-/// What a page accepts of a program's name and a list of attributes.
-fn asked_of(programs: &[[u32; 2]], names: &[u8], program: &[u8], attributes: &[u8]) -> Asked
-    requires { length programs.now ≤ 65535 }
-    ensures { result ≡ asked_by (scope_by programs.now names.now program.now) (accepted_in attributes.now) }
+/// The first page of a listing, where it is granted.
+fn page_of<'a>(t: &Tables, listing: &Listing<'a>) -> Option<Page<'a>>
+    requires { length t.now.programs.now ≤ 65535 }
+    ensures { FirstPage (tables_of t.now) listing.now result }
 {
-    let Scope::In(scope) = scope_of(programs, names, program) else {
-        return Asked::Nothing;
-    };
-    let Count::Of(n) = accepted(attributes) else {
-        return Asked::Nothing;
-    };
-    Asked::Of(scope, cip::numbers::wide16(n))
+    let scope = scope_of(t, listing.program)?;
+    let numbers = accepted(listing.attributes)?;
+    Some(Page {
+        start: Start { scope, id: 0 },
+        numbers,
+    })
 }
 
 /// A whole list whose pages are granted. It is measured first, so that `out` stays as it was where it is too short.
 fn list_granted(
-    structures: &[[u32; 10]],
-    members: &[[u32; 9]],
-    programs: &[[u32; 2]],
-    tags: &[[u32; 12]],
-    others: &[[u32; 5]],
-    names: &[u8],
-    tag_names: &[u8],
-    templates: &[u8],
-    flags: Flags,
+    c: &Controller,
     memory: &mut [u8],
-    program: &[u8],
-    attributes: &[u8],
+    listing: &Listing,
+    first: &Page,
     limit: usize,
     buf: &mut [u8],
     out: &mut [u8],
-    scope: u32,
-    n: usize,
-) -> Whole
-    requires { let t = tables_of structures.now members.now programs.now tags.now others.now names.now tag_names.now templates.now in
-        Askable t memory.old program.now attributes.now limit (length buf.old) × Granted t program.now attributes.now scope n }
-    ensures { let t = tables_of structures.now members.now programs.now tags.now
-        others.now names.now tag_names.now templates.now in
-        let first = first_page t (flags_of flags) memory.old program.now attributes.now limit in
-        let whole = whole_of_list (entries_of t program.now attributes.now) first limit buf.old out.old in
-        (received result out.new buf.new ≡ whole) × (memory.new ≡ memory.old) }
+) -> Result<usize, Unjoined>
+    requires taken { ListTaken c.now memory.old listing.now limit (length buf.old) }
+    requires granted { ListGranted (tables_of c.now.tables) listing.now first.now }
+    requires first { first.now.start.id ≡ 0 }
+    ensures whole { received result out.new buf.new ≡ whole_of_list (entries_of (tables_of c.now.tables) listing.now.program.now
+        listing.now.attributes.now) (answer_at c.now memory.old listing.now 0 limit) limit buf.old out.old }
+    ensures memory { memory.new ≡ memory.old }
 {
     if limit < HEADER {
-        return Whole::TooNarrow;
+        return Err(Unjoined::TooNarrow);
     }
-    let Measure::Total(total) = walks::measured(
-        structures, tags, others, names, tag_names, scope, attributes, n, limit,
-    ) else {
-        return Whole::TooNarrow;
+    let Some(total) = walks::measured(&c.tables, first, limit) else {
+        return Err(Unjoined::TooNarrow);
     };
     if out.len() < total {
-        return Whole::TooShort(total);
+        return Err(Unjoined::TooShort(total));
     }
-    Whole::Joined(pages::join_pages(
-        structures, members, programs, tags, others, names, tag_names, templates, flags, memory,
-        program, attributes, limit, buf, out, scope, n,
-    ))
+    Ok(pages::join_pages(c, memory, listing, first, limit, buf, out))
 }
 
 /// A whole list that the entry takes. Where no page would be granted, the first one is asked for, to learn its status.
 fn list_askable(
-    structures: &[[u32; 10]],
-    members: &[[u32; 9]],
-    programs: &[[u32; 2]],
-    tags: &[[u32; 12]],
-    others: &[[u32; 5]],
-    names: &[u8],
-    tag_names: &[u8],
-    templates: &[u8],
-    flags: Flags,
+    c: &Controller,
     memory: &mut [u8],
-    program: &[u8],
-    attributes: &[u8],
+    listing: &Listing,
     limit: usize,
     buf: &mut [u8],
     out: &mut [u8],
-) -> Whole
-    requires { let t = tables_of structures.now members.now programs.now tags.now others.now names.now tag_names.now templates.now in
-        Askable t memory.old program.now attributes.now limit (length buf.old) }
-    ensures { let t = tables_of structures.now members.now programs.now tags.now
-        others.now names.now tag_names.now templates.now in
-        let first = first_page t (flags_of flags) memory.old program.now attributes.now limit in
-        let whole = whole_of_list (entries_of t program.now attributes.now) first limit buf.old out.old in
-        (received result out.new buf.new ≡ whole) × (memory.new ≡ memory.old) }
+) -> Result<usize, Unjoined>
+    requires { ListTaken c.now memory.old listing.now limit (length buf.old) }
+    ensures whole { received result out.new buf.new ≡ whole_of_list (entries_of (tables_of c.now.tables) listing.now.program.now
+        listing.now.attributes.now) (answer_at c.now memory.old listing.now 0 limit) limit buf.old out.old }
+    ensures memory { memory.new ≡ memory.old }
 {
-    let Asked::Of(scope, n) = asked_of(programs, names, program, attributes) else {
-        return Whole::Turned(pages::first_page(
-            structures, members, programs, tags, others, names, tag_names, templates, flags,
-            memory, program, attributes, limit, buf,
-        ));
+    let Some(first) = page_of(&c.tables, listing) else {
+        let status = pages::first_page(c, memory, listing, limit, buf);
+        return Err(Unjoined::Turned(status));
     };
-    list_granted(
-        structures, members, programs, tags, others, names, tag_names, templates, flags, memory,
-        program, attributes, limit, buf, out, scope, n,
-    )
+    list_granted(c, memory, listing, &first, limit, buf, out)
 }
 
 /// Lists all symbols of a scope into `out`: asks for pages, each from the last listed ID plus one, and joins their entries until
-/// status 0, or says why not. `program` is empty for the controller's scope, `attributes` is the request's data, and `buf` is the
-/// reply buffer: the last reply stays in it, and where nothing is sent it is as it was.
+/// status 0, and returns how many bytes they are; or says why not. `buf` is the reply buffer: the last reply stays in it, and where nothing
+/// is sent it is as it was.
 pub fn list_whole(
-    structures: &[[u32; 10]],
-    members: &[[u32; 9]],
-    programs: &[[u32; 2]],
-    tags: &[[u32; 12]],
-    others: &[[u32; 5]],
-    names: &[u8],
-    tag_names: &[u8],
-    templates: &[u8],
-    flags: Flags,
+    c: &Controller,
     memory: &mut [u8],
-    program: &[u8],
-    attributes: &[u8],
+    listing: &Listing,
     limit: usize,
     buf: &mut [u8],
     out: &mut [u8],
-) -> Whole
-    ensures { let t = tables_of structures.now members.now programs.now tags.now
-        others.now names.now tag_names.now templates.now in
-        let whole = whole_list t (flags_of flags) memory.old program.now attributes.now limit buf.old
-        out.old in
-        (received result out.new buf.new ≡ whole) × (memory.new ≡ memory.old) }
+) -> Result<usize, Unjoined>
+    ensures whole { received result out.new buf.new ≡ whole_list (tables_of c.now.tables) (flags_of c.now.flags) memory.old
+        listing.now.program.now listing.now.attributes.now limit buf.old out.old }
+    ensures memory { memory.new ≡ memory.old }
 {
-    if !pages::is_askable(program, attributes) {
-        return Whole::Unsendable;
+    if !listing.is_askable() {
+        return Err(Unjoined::Unsendable);
     }
-    if limit > 65535 {
-        return Whole::Refused(2);
+    if let Err(why) = crate::enter(c, memory, limit, buf) {
+        return Err(Unjoined::Refused(why));
     }
-    if buf.len() < cip::room_of(limit) {
-        return Whole::Refused(3);
-    }
-    if !tables::valid(
-        structures, members, programs, tags, others, names, tag_names, templates, memory,
-    ) {
-        return Whole::Refused(4);
-    }
-    list_askable(
-        structures, members, programs, tags, others, names, tag_names, templates, flags, memory,
-        program, attributes, limit, buf, out,
-    )
+    list_askable(c, memory, listing, limit, buf, out)
 }

@@ -1,76 +1,48 @@
-// What a read selects, decided before anything is sent: how many bytes, behind a type header of how many.
+// What a read selects, decided before anything is sent.
 ghost use Rattle.std.specs.Prelude.{◌≡◌, true, ◌*◌, ◌≤◌, ◌<◌, length};
 ghost use Rattle.definition.specs.Valid.{valid};
-ghost use Rattle.model.specs.Tables.{tables_of, flags_of};
+ghost use Rattle.model.specs.Tables.{tables_of};
 ghost use Rattle.reads.specs.Reading.{grant_of};
-ghost use Rattle.whole.specs.Whole.{chosen};
-ghost use Rattle.whole.specs.Parts.{sized_of, sized_by};
+ghost use Rattle.whole.specs.Parts.{sized_of, sized_by, chosen_in};
 
+use crate::requests::Read;
 use model::columns::NO_BIT;
-use model::{Flags, Target};
-use reads::Grant;
+use model::{Controller, Target};
 
-/// So many bytes behind a type header of so many; or nothing is selected.
+/// So many bytes, behind a type header of so many.
 #[derive(Clone, Copy)]
-pub enum Size {
-    Of(usize, usize),
-    Nothing,
+pub struct Size {
+    pub bytes: usize,
+    pub header: usize,
 }
 
 /// What a read of a target selects: a bit is one byte.
-fn granted_size(g: Target, elements: usize) -> Size
+fn granted_size(g: Target, elements: usize) -> Option<Size>
     requires { (0 < g.count) × (g.count * g.size ≤ 65536) }
     ensures { result ≡ sized_by g elements (grant_of g.bit g.count elements) }
 {
-    match reads::ask_of(g.bit, g.count, elements) {
-        Grant::Granted => {
-            let header = reads::header_size(g.ty);
-            if g.bit != NO_BIT {
-                return Size::Of(1, header);
-            }
-            return Size::Of(elements * g.size, header);
-        }
-        Grant::Refused(_) => {
-            return Size::Nothing;
-        }
+    reads::ask_of(g, elements).ok()?;
+    let header = reads::header_size(g.ty);
+    if g.bit != NO_BIT {
+        return Some(Size { bytes: 1, header });
     }
+    Some(Size {
+        bytes: elements * g.size,
+        header,
+    })
 }
 
-/// What a read of a path selects.
-pub fn selected_size(
-    structures: &[[u32; 10]],
-    members: &[[u32; 9]],
-    programs: &[[u32; 2]],
-    tags: &[[u32; 12]],
-    others: &[[u32; 5]],
-    names: &[u8],
-    tag_names: &[u8],
-    templates: &[u8],
-    flags: Flags,
-    memory: &[u8],
-    path: &[u8],
-    elements: u16,
-) -> Size
-    requires { let t = tables_of structures.now members.now programs.now tags.now others.now names.now tag_names.now templates.now in
-        valid t (length memory.now) ≡ true }
-    ensures { let t = tables_of structures.now members.now programs.now tags.now
-        others.now names.now tag_names.now templates.now in
-        result ≡ sized_of memory.now (chosen t (flags_of flags) path.now elements) }
+/// What a read selects; nothing where the path does not decode, is no tag path, or the read is not granted.
+pub fn selected_size(c: &Controller, memory: &[u8], read: &Read) -> Option<Size>
+    requires { valid (tables_of c.now.tables) (length memory.now) ≡ true }
+    ensures { result ≡ sized_of memory.now (chosen_in c.now read.now) }
 {
-    let path::Check::Segments(_) = path::check_path(path) else {
-        return Size::Nothing;
-    };
-    if path::is_tag_path(path, 0) {
-        match resolve::tag_target(
-            structures, members, programs, tags, names, tag_names, flags, false, path,
-        ) {
-            resolve::Resolved::Found(g) => {
-                return granted_size(g, cip::numbers::wide16(elements));
-            }
-            resolve::Resolved::Turned(_) => {
-                return Size::Nothing;
-            }
-        }
+    path::reader::count_segments(read.path)?;
+    if !path::is_tag_path(read.path, 0) {
+        return None;
     }
-    Size::Nothing
+    match resolve::tag_target(c, false, read.path) {
+        Ok(g) => granted_size(g, usize::from(read.elements)),
+        Err(_) => None,
+    }
 }

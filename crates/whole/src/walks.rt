@@ -1,147 +1,77 @@
 // The walk over the symbols of a scope by ascending ID, done before anything is asked for and between two pages.
-ghost use Rattle.std.specs.Prelude.{◌≡◌, ◌+◌, ◌*◌, ◌≤◌, length, drop};
+ghost use Rattle.std.specs.Prelude.{◌≡◌, ◌≤◌, length};
 ghost use Rattle.laws.specs.Put.{KeptFrom};
-ghost use Rattle.definition.specs.Bytes.{numbers};
 ghost use Rattle.definition.specs.Symbols.{due};
 ghost use Rattle.model.specs.Least.{next_in};
-ghost use Rattle.model.specs.Tables.{SomeValid, WhereValid, for_page};
+ghost use Rattle.model.specs.Tables.{tables_of, SomeValid, WhereValid};
+ghost use Rattle.listing.specs.Entries.{page_lent};
+ghost use Rattle.listing.specs.Numbers.{numbers_in};
 ghost use Rattle.whole.specs.Lists.{behind};
-ghost use Rattle.whole.specs.Turns.{Measured, front, next_id, start_by, StartsAt};
+ghost use Rattle.whole.specs.Turns.{due_on, Measured, front, next_id, start_by, StartsAt};
 
 use cip::replies::HEADER;
-use listing::pages::Step;
+use listing::pages::{Page, Step, Walk};
+use model::Tables;
 use model::least::Next;
 
-/// All bytes of the entries, each of which a page can bring; or one that no page can.
-#[derive(Clone, Copy)]
-pub enum Measure {
-    Total(usize),
-    Narrow,
+/// Before the first entry of a page. No tag is tried first.
+fn walk_from(id: u32) -> Walk
+    ensures { (result.used ≡ 4) × (result.bound ≡ id) }
+{
+    Walk {
+        used: HEADER,
+        bound: u64::from(id),
+        hint: 0,
+    }
 }
 
-/// Where the next page starts; or nothing is due.
-#[derive(Clone, Copy)]
-pub enum PageStart {
-    At(u32),
-    Nowhere,
-}
-
-/// The bytes of all entries of a scope. The buffer is used for one entry after the other.
-pub fn measure_all(
-    structures: &[[u32; 10]],
-    tags: &[[u32; 12]],
-    others: &[[u32; 5]],
-    names: &[u8],
-    tag_names: &[u8],
-    scope: u32,
-    body: &[u8],
-    n: usize,
-    limit: usize,
-    buf: &mut [u8],
-) -> Measure
-    requires { SomeValid (for_page structures.now tags.now others.now names.now tag_names.now)
-        × (2 + 2 * n ≤ length body.now) × (n ≤ 65535)
-        × (4 ≤ limit) × (limit ≤ 65535) × (limit ≤ length buf.old) }
-    ensures { WhereValid (for_page structures.now tags.now others.now names.now tag_names.now)
-        (λ t. Measured (due t scope (numbers n (drop 2 body.now)) 0) limit result) × KeptFrom limit buf.old buf.new }
+/// The bytes of all entries from a page on, each of which a page can bring; none where one is too long for that. The buffer is used for one
+/// entry after the other.
+pub fn measure_all(t: &Tables, page: &Page, limit: usize, buf: &mut [u8]) -> Option<usize>
+    requires { SomeValid (page_lent (tables_of t.now)) × (4 ≤ limit) × (limit ≤ 65535) × (limit ≤ length buf.old) }
+    ensures measured { WhereValid (page_lent (tables_of t.now)) (λ t. Measured (due_on t page.now) limit result) }
+    ensures kept { KeptFrom limit buf.old buf.new }
 {
     let mut total = 0;
-    let mut bound = 0u64;
-    let mut hint = 0;
+    let mut walk = walk_from(page.start.id);
     loop {
-        match listing::pages::page_step(
-            structures, tags, others, names, tag_names, scope, bound, hint, body, n, limit, HEADER,
-            buf,
-        ) {
-            Step::More(u, b, h) => {
-                total += u - HEADER;
-                bound = b;
-                hint = h;
+        match page.step(t, walk, limit, buf) {
+            Step::More(next) => {
+                total += next.used - HEADER;
+                walk = Walk {
+                    used: HEADER,
+                    ..next
+                };
             }
-            Step::Full => {
-                return Measure::Narrow;
-            }
-            Step::Done => {
-                return Measure::Total(total);
-            }
+            Step::Full => return None,
+            Step::Done => return Some(total),
         }
     }
 }
 
 /// The same, with a scratch of its own: the reply buffer stays as it was as long as nothing is sent.
-pub fn measured(
-    structures: &[[u32; 10]],
-    tags: &[[u32; 12]],
-    others: &[[u32; 5]],
-    names: &[u8],
-    tag_names: &[u8],
-    scope: u32,
-    body: &[u8],
-    n: usize,
-    limit: usize,
-) -> Measure
-    requires { SomeValid (for_page structures.now tags.now others.now names.now tag_names.now)
-        × (2 + 2 * n ≤ length body.now) × (n ≤ 65535)
-        × (4 ≤ limit) × (limit ≤ 65535) }
-    ensures { WhereValid (for_page structures.now tags.now others.now names.now tag_names.now)
-        (λ t. Measured (due t scope (numbers n (drop 2 body.now)) 0) limit result) }
+pub fn measured(t: &Tables, page: &Page, limit: usize) -> Option<usize>
+    requires { SomeValid (page_lent (tables_of t.now)) × (4 ≤ limit) × (limit ≤ 65535) }
+    ensures { WhereValid (page_lent (tables_of t.now)) (λ t. Measured (due_on t page.now) limit result) }
 {
     let mut scratch = [0u8; 65535];
-    measure_all(
-        structures,
-        tags,
-        others,
-        names,
-        tag_names,
-        scope,
-        body,
-        n,
-        limit,
-        &mut scratch,
-    )
+    measure_all(t, page, limit, &mut scratch)
 }
 
 /// The last listed ID plus one, behind a page of so many bytes: its entries are passed once more.
-fn next_bound(
-    structures: &[[u32; 10]],
-    tags: &[[u32; 12]],
-    others: &[[u32; 5]],
-    names: &[u8],
-    tag_names: &[u8],
-    scope: u32,
-    start: u32,
-    body: &[u8],
-    n: usize,
-    size: usize,
-    buf: &mut [u8],
-) -> u64
-    requires { SomeValid (for_page structures.now tags.now others.now names.now tag_names.now)
-        × (2 + 2 * n ≤ length body.now) × (n ≤ 65535)
-        × (4 ≤ size) × (size ≤ length buf.old) }
-    ensures { let list = numbers n (drop 2 body.now) in
-        WhereValid (for_page structures.now tags.now others.now names.now tag_names.now)
-        (λ t. (result ≡ next_id start (front size (due t scope list start))) × (due t scope list result ≡ behind size (due t scope list start)))
-        × KeptFrom size buf.old buf.new }
+fn next_bound(t: &Tables, page: &Page, size: usize, buf: &mut [u8]) -> u64
+    requires { SomeValid (page_lent (tables_of t.now)) × (4 ≤ size) × (size ≤ length buf.old) }
+    ensures passed { WhereValid (page_lent (tables_of t.now))
+        (λ t. (result ≡ next_id page.now.start.id (front size (due_on t page.now)))
+        × (due t page.now.start.scope (numbers_in page.now.numbers) result ≡ behind size (due_on t page.now))) }
+    ensures kept { KeptFrom size buf.old buf.new }
 {
-    let mut used = HEADER;
-    let mut bound = start as u64;
-    let mut hint = 0;
+    let mut walk = walk_from(page.start.id);
     loop {
-        match listing::pages::page_step(
-            structures, tags, others, names, tag_names, scope, bound, hint, body, n, size, used,
-            buf,
-        ) {
-            Step::More(u, b, h) => {
-                used = u;
-                bound = b;
-                hint = h;
-            }
-            Step::Full => {
-                return bound;
-            }
-            Step::Done => {
-                return bound;
-            }
+        match page.step(t, walk, size, buf) {
+            Step::More(next) => walk = next,
+            Step::Full => return walk.bound,
+            Step::Done => return walk.bound,
         }
     }
 }
@@ -155,46 +85,22 @@ fn start_below(bound: u64, id: u32) -> u32
 }
 
 /// The start ID of a page from a bound on that something is due from.
-fn start_from(tags: &[[u32; 12]], others: &[[u32; 5]], scope: u32, bound: u64) -> PageStart
-    ensures { result ≡ start_by bound (next_in tags.now others.now scope bound) }
+fn start_from(t: &Tables, scope: u32, bound: u64) -> Option<u32>
+    ensures { result ≡ start_by bound (next_in t.now.tags.now t.now.others.now scope bound) }
 {
-    match model::least::next_symbol(tags, others, scope, bound) {
-        Next::Tag(_, id) => {
-            return PageStart::At(start_below(bound, id));
-        }
-        Next::Other(_, id) => {
-            return PageStart::At(start_below(bound, id));
-        }
-        Next::Nothing => {
-            return PageStart::Nowhere;
-        }
+    match t.next_symbol(scope, bound)? {
+        Next::Tag(next) | Next::Other(next) => Some(start_below(bound, next.id)),
     }
 }
 
-/// The start of the page behind a page of so many bytes.
-pub fn next_start(
-    structures: &[[u32; 10]],
-    tags: &[[u32; 12]],
-    others: &[[u32; 5]],
-    names: &[u8],
-    tag_names: &[u8],
-    scope: u32,
-    start: u32,
-    body: &[u8],
-    n: usize,
-    size: usize,
-    buf: &mut [u8],
-) -> PageStart
-    requires { SomeValid (for_page structures.now tags.now others.now names.now tag_names.now)
-        × (2 + 2 * n ≤ length body.now) × (n ≤ 65535)
-        × (4 ≤ size) × (size ≤ length buf.old) }
-    ensures { let list = numbers n (drop 2 body.now) in
-        WhereValid (for_page structures.now tags.now others.now names.now tag_names.now)
-        (λ t. StartsAt t scope list start (front size (due t scope list start)) (behind size (due t scope list start)) result)
-        × KeptFrom size buf.old buf.new }
+/// The start of the page behind a page of so many bytes; none where nothing is due.
+pub fn next_start(t: &Tables, page: &Page, size: usize, buf: &mut [u8]) -> Option<u32>
+    requires { SomeValid (page_lent (tables_of t.now)) × (4 ≤ size) × (size ≤ length buf.old) }
+    ensures starts { WhereValid (page_lent (tables_of t.now))
+        (λ t. StartsAt t page.now.start.scope (numbers_in page.now.numbers) page.now.start.id (front size (due_on t page.now))
+        (behind size (due_on t page.now)) result) }
+    ensures kept { KeptFrom size buf.old buf.new }
 {
-    let bound = next_bound(
-        structures, tags, others, names, tag_names, scope, start, body, n, size, buf,
-    );
-    start_from(tags, others, scope, bound)
+    let bound = next_bound(t, page, size, buf);
+    start_from(t, page.start.scope, bound)
 }

@@ -1,107 +1,74 @@
-// The name of a row: where it stands in its store, and how it is shown.
-use crate::out;
-use cip::numbers::wide;
+// The name of a row: its bytes in their store, and how it is shown.
+ghost use Rattle.std.specs.Prelude.{◌+◌, ◌<◌};
+
+use model::Tables;
+use model::columns::{
+    MEMBER_NAME_START, OTHER_NAME_START, PROGRAM_NAME_START, STRUCTURE_NAME_START, TAG_NAME_START,
+};
 use model::lookup::part_of;
-use std::io;
+use std::fmt;
+use tables::rules::{Place, Table};
 
 /// The longest name that is one, of an other symbol with its prefix. A longer one is cut here, so that a wrong length does not fill the screen.
 const SHOWN: usize = 48;
 
-/// The word of a row at which its name starts; the word behind it is the name's length.
-const NAME: usize = 0;
+/// Bytes that need not be text: each as it is, or as `\xHH` where it is no sign that a line of text can show.
+#[derive(Clone, Copy)]
+pub struct Signs<'a>(pub &'a [u8]);
 
-/// The same of tags and other symbols, whose first word is the scope.
-const SYMBOL_NAME: usize = 1;
-
-/// A part of a store of names.
-#[derive(Drop)]
-pub struct StoredName {
-    pub start: u32,
-    pub length: u32,
-}
-
-/// The name of a row that is not there.
-fn nothing() -> StoredName {
-    StoredName {
-        start: 0,
-        length: 0,
-    }
-}
-
-pub fn of_structure(structures: &[[u32; 10]], row: usize) -> StoredName {
-    if row >= structures.len() {
-        return nothing();
-    }
-    StoredName {
-        start: structures[row][NAME],
-        length: structures[row][NAME + 1],
-    }
-}
-
-pub fn of_member(members: &[[u32; 9]], row: usize) -> StoredName {
-    if row >= members.len() {
-        return nothing();
-    }
-    StoredName {
-        start: members[row][NAME],
-        length: members[row][NAME + 1],
-    }
-}
-
-pub fn of_program(programs: &[[u32; 2]], row: usize) -> StoredName {
-    if row >= programs.len() {
-        return nothing();
-    }
-    StoredName {
-        start: programs[row][NAME],
-        length: programs[row][NAME + 1],
-    }
-}
-
-pub fn of_tag(tags: &[[u32; 12]], row: usize) -> StoredName {
-    if row >= tags.len() {
-        return nothing();
-    }
-    StoredName {
-        start: tags[row][SYMBOL_NAME],
-        length: tags[row][SYMBOL_NAME + 1],
-    }
-}
-
-pub fn of_other(others: &[[u32; 5]], row: usize) -> StoredName {
-    if row >= others.len() {
-        return nothing();
-    }
-    StoredName {
-        start: others[row][SYMBOL_NAME],
-        length: others[row][SYMBOL_NAME + 1],
+impl<'a> fmt::Display for Signs<'a> {
+    fn fmt<W: fmt::Write>(&self, f: &mut fmt::Formatter<W>) -> fmt::Result {
+        for &b in self.0 {
+            match b {
+                b' '..=b'~' => f.write_char(char::from(b))?,
+                _ => write!(f, "\\x{b:02X}")?,
+            }
+        }
+        Ok(())
     }
 }
 
 /// As much of a name as is shown.
-fn cut(to: &impl Print, name: &[u8]) -> io::Result<()> {
-    if name.len() > SHOWN {
-        out::signs(to, &name[..SHOWN])?;
-        return out::text(to, b"..");
+#[derive(Clone, Copy)]
+pub struct Name<'a>(pub &'a [u8]);
+
+impl<'a> fmt::Display for Name<'a> {
+    fn fmt<W: fmt::Write>(&self, f: &mut fmt::Formatter<W>) -> fmt::Result {
+        match self.0.get(..SHOWN) {
+            Some(start) if SHOWN < self.0.len() => write!(f, "{}..", Signs(start)),
+            _ => write!(f, "{}", Signs(self.0)),
+        }
     }
-    out::signs(to, name)
 }
 
-/// A name as it is. One that does not stand in its store is shown as far as it does.
-pub fn plain(to: &impl Print, store: &[u8], p: StoredName) -> io::Result<()> {
-    cut(to, part_of(store, p.start, p.length))
+/// A row's name, of which two words say where it starts and how long it is. None where it is empty, and none where it does not stand
+/// in its store, of which only a piece is there.
+fn name_in<'a, const N: usize>(
+    rows: &[[u32; N]],
+    row: usize,
+    start: usize,
+    store: &'a [u8],
+) -> Option<Name<'a>>
+    requires { start + 1 < N }
+{
+    let words = rows.get(row)?;
+    let length = words[start + 1];
+    let name = part_of(store, words[start], length);
+    if name.is_empty() || name.len() < length as usize {
+        return None;
+    }
+    Some(Name(name))
 }
 
-/// A name in quotes. An empty one is left out, and so is one that does not stand in its store, of which only a piece is there.
-pub fn show(to: &impl Print, store: &[u8], p: StoredName) -> io::Result<()> {
-    let name = part_of(store, p.start, p.length);
-    if name.len() == 0 {
-        return Ok(());
+/// The name of a row, if it has one. The names of tags have a store of their own.
+pub(crate) fn name_at<'a>(t: &Tables<'a>, at: Place) -> Option<Name<'a>> {
+    let row = at.row;
+    match at.table {
+        Table::Structures => name_in(t.structures, row, STRUCTURE_NAME_START, t.names),
+        Table::Members => name_in(t.members, row, MEMBER_NAME_START, t.names),
+        Table::Programs => name_in(t.programs, row, PROGRAM_NAME_START, t.names),
+        Table::Tags => name_in(t.tags, row, TAG_NAME_START, t.tag_names),
+        Table::Others => name_in(t.others, row, OTHER_NAME_START, t.names),
+        Table::Memory | Table::Templates => None,
     }
-    if name.len() < wide(p.length) {
-        return Ok(());
-    }
-    out::text(to, b" \"")?;
-    cut(to, name)?;
-    out::text(to, b"\"")
 }

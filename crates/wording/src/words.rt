@@ -1,139 +1,78 @@
-// The words of each rule. Its number is 100 times the number of its T; the numbers below 100 are of the rows' encoding.
-use crate::{OTHERS, PROGRAMS, TAGS, out};
-use std::io;
+// The words of each rule.
+use std::fmt;
+use tables::rules::{Breach, Rule, Table};
 
-fn not_stored(to: &impl Print, table: u32) -> io::Result<()> {
-    out::text(to, b"its name does not stand in the store of ")?;
-    if table == TAGS {
-        out::text(to, b"tag ")?;
-    }
-    out::text(to, b"names")
-}
-
-fn encoding(to: &impl Print, rule: u32, table: u32) -> io::Result<()> {
-    out::text(to, b"encoding: ")?;
-    match rule {
-        1 => not_stored(to, table),
-        2 => out::text(to, b"its scope is no program's"),
-        3 => out::text(
-            to,
-            b"its type is neither an atomic code nor a structure in the tables",
-        ),
-        4 => out::text(to, b"its template ID exceeds 65535"),
-        5 => out::text(to, b"its handle exceeds 65535"),
-        6 => out::text(to, b"its symbol type exceeds 65535"),
-        7 => out::text(to, b"its members do not stand in the member table"),
-        8 => out::text(to, b"its AOI mark is not 0 or 1"),
-        9 => out::text(to, b"its hidden mark is not 0 or 1"),
-        10 => out::text(to, b"its local mark is not 0 or 1"),
-        11 => out::text(to, b"its alias mark is not 0 or 1"),
-        _ => unknown(to),
-    }
-}
-
-/// The row of a count is the first too many, so its number, counted from 0, is the most that there may be.
-fn t1(to: &impl Print, rule: u32, row: usize) -> io::Result<()> {
-    out::text(to, b"T1: ")?;
-    match rule {
-        101 => {
-            out::text(to, b"there are more than ")?;
-            out::number(to, row)
-        }
-        102 => out::text(to, b"its access is not 0 to 3"),
-        _ => unknown(to),
+fn not_stored(table: Table) -> &'static str {
+    match table {
+        Table::Tags => "its name does not stand in the store of tag names",
+        _ => "its name does not stand in the store of names",
     }
 }
 
 /// Of an other symbol's name a prefix is not counted, and is enough by itself.
-fn name_length(to: &impl Print, table: u32) -> io::Result<()> {
-    if table == OTHERS {
-        out::text(to, b"its name has no bytes, or more than 40, not counting ")?;
-        return out::text(to, b"Program:, Routine: or Task: before them");
+fn name_length(table: Table) -> &'static str {
+    match table {
+        Table::Others => {
+            "its name has no bytes, or more than 40, not counting Program:, Routine: or Task: before them"
+        }
+        _ => "its name has no or more than 40 bytes",
     }
-    out::text(to, b"its name has no or more than 40 bytes")
 }
 
-fn t2(to: &impl Print, rule: u32, table: u32) -> io::Result<()> {
-    out::text(to, b"T2: ")?;
+/// What does not hold, up to the number of a count or the row that it clashes with.
+fn fault(rule: Rule, table: Table) -> &'static str {
     match rule {
-        201 => name_length(to, table),
-        202 => out::text(to, b"its name has a byte below 0x20 or above 0x7E"),
-        203 => out::text(to, b"the same name, case ignored, as"),
-        _ => unknown(to),
+        Rule::NameStored => not_stored(table),
+        Rule::ScopeKnown => "its scope is no program's",
+        Rule::TypeKnown | Rule::TagType => NO_TYPE,
+        Rule::TemplateIdFits => "its template ID exceeds 65535",
+        Rule::HandleFits => "its handle exceeds 65535",
+        Rule::SymbolTypeFits => "its symbol type exceeds 65535",
+        Rule::MembersStored => "its members do not stand in the member table",
+        Rule::AoiMark => "its AOI mark is not 0 or 1",
+        Rule::HiddenMark => "its hidden mark is not 0 or 1",
+        Rule::LocalMark => "its local mark is not 0 or 1",
+        Rule::AliasMark => "its alias mark is not 0 or 1",
+        Rule::Count => "there are more than ",
+        Rule::Access => "its access is not 0 to 3",
+        Rule::NameLength => name_length(table),
+        Rule::NameBytes => "its name has a byte below 0x20 or above 0x7E",
+        Rule::NameUnique => "the same name, case ignored, as",
+        Rule::IdNonzero => "its ID is 0",
+        Rule::IdUnique => "the same ID as",
+        Rule::StructureSize => "it has no or more than 65535 bytes",
+        Rule::TemplateStored => "its template does not stand in the template store",
+        Rule::Bit => "its bit is not 0 to 7, or 8 for none",
+        Rule::EarlierType => NO_EARLIER_TYPE,
+        Rule::InsideStructure => "it does not end inside its structure,",
+        Rule::LengthsFirst => "a length of 0 has a length behind it",
+        Rule::Elements => "its elements are not the product of its lengths",
+        Rule::InsideMemory => "its bytes do not end in tag memory",
+        Rule::BytesApart => "it shares a byte with",
     }
 }
 
-fn t3(to: &impl Print, rule: u32) -> io::Result<()> {
-    out::text(to, b"T3: ")?;
-    match rule {
-        301 => out::text(to, b"its ID is 0"),
-        302 => out::text(to, b"the same ID as"),
-        _ => unknown(to),
-    }
-}
+const NO_TYPE: &str = "its type is neither an atomic code nor a structure in the tables";
 
-fn t4(to: &impl Print, rule: u32) -> io::Result<()> {
-    out::text(to, b"T4: ")?;
-    match rule {
-        401 => out::text(to, b"it has no or more than 65535 bytes"),
-        402 => out::text(to, b"its template does not stand in the template store"),
-        403 => out::text(to, b"its bit is not 0 to 7, or 8 for none"),
-        404 => out::text(
-            to,
-            b"its type is neither atomic nor of an earlier structure than its own,",
-        ),
-        405 => out::text(to, b"it does not end inside its structure,"),
-        _ => unknown(to),
-    }
-}
+const NO_EARLIER_TYPE: &str =
+    "its type is neither atomic nor of an earlier structure than its own,";
 
-fn t5(to: &impl Print, rule: u32) -> io::Result<()> {
-    out::text(to, b"T5: ")?;
-    match rule {
-        501 => out::text(
-            to,
-            b"its type is neither an atomic code nor a structure in the tables",
-        ),
-        502 => out::text(to, b"a length of 0 has a length behind it"),
-        503 => out::text(to, b"its elements are not the product of its lengths"),
-        _ => unknown(to),
-    }
-}
+/// The rule that is broken: its T, and what does not hold.
+#[derive(Clone, Copy)]
+pub struct Words(pub Breach);
 
-fn t6(to: &impl Print, rule: u32) -> io::Result<()> {
-    out::text(to, b"T6: ")?;
-    match rule {
-        601 => out::text(to, b"its bytes do not end in tag memory"),
-        602 => out::text(to, b"it shares a byte with"),
-        _ => unknown(to),
-    }
-}
-
-fn unknown(to: &impl Print) -> io::Result<()> {
-    out::text(to, b"a rule that has no words")
-}
-
-/// The words of a rule, up to the row that it clashes with if it does with one.
-pub fn of_rule(to: &impl Print, rule: u32, table: u32, row: usize) -> io::Result<()> {
-    match rule / 100 {
-        0 => encoding(to, rule, table),
-        1 => t1(to, rule, row),
-        2 => t2(to, rule, table),
-        3 => t3(to, rule),
-        4 => t4(to, rule),
-        5 => t5(to, rule),
-        6 => t6(to, rule),
-        _ => unknown(to),
-    }
-}
-
-/// The words behind the row that it clashes with. Programs have no scope.
-pub fn behind(to: &impl Print, rule: u32, table: u32) -> io::Result<()> {
-    if table == PROGRAMS {
-        return Ok(());
-    }
-    match rule {
-        203 | 302 => out::text(to, b" in the same scope"),
-        _ => Ok(()),
+impl fmt::Display for Words {
+    fn fmt<W: fmt::Write>(&self, f: &mut fmt::Formatter<W>) -> fmt::Result {
+        let Breach { rule, at, .. } = self.0;
+        match rule.number() / 100 {
+            0 => f.write_str("encoding: ")?,
+            t => write!(f, "T{t}: ")?,
+        }
+        f.write_str(fault(rule, at.table))?;
+        match rule {
+            // The row is the first too many, so its number, counted from 0, is the most that there may be.
+            Rule::Count => write!(f, "{}", at.row),
+            _ => Ok(()),
+        }
     }
 }

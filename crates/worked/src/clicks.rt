@@ -1,37 +1,35 @@
 // P13: masked writes in a row to the plant of P11's page, one by one and joined into one request.
 ghost use Rattle.std.specs.Prelude.{◌+◌, ◌*◌, ◌≤◌, length};
 
-use crate::{asked, hex, plant};
+use crate::hex::Hex;
+use crate::{asked, plant};
 use std::io;
-use wording::out;
 
 /// Sends a message and shows it with its reply.
 fn send(to: &impl Print, memory: &mut [u8], request: &[u8]) -> io::Result<()> {
-    let mut buf = [0xEEu8; 110];
+    let mut buf = [0xEE; 110];
     let told = plant::message(memory, request, 100, &mut buf);
     asked::show(to, request, 100, told, &buf)
 }
 
 /// Bytes behind a word.
-fn show(to: &impl Print, word: &[u8], bytes: &[u8]) -> io::Result<()> {
-    out::text(to, word)?;
-    hex::bytes(to, bytes, bytes.len())?;
-    out::text(to, b"\n")
+fn show(to: &impl Print, word: &str, bytes: &[u8]) -> io::Result<()> {
+    println!(to; "{word}{}", Hex(bytes))
 }
 
 /// The bytes of a target.
 fn left(to: &impl Print, memory: &[u8], start: usize, size: usize) -> io::Result<()>
     requires { start + size ≤ length memory.now }
 {
-    show(to, b"left", &memory[start..start + size])
+    show(to, "left", &memory[start..start + size])
 }
 
 /// The first request with the masks of the second joined to its own; the masks are the last bytes of both.
 fn joined(first: &[u8], next: &[u8], size: usize) -> [u8; 40]
     requires { (2 * size ≤ length first.now) × (2 * size ≤ length next.now) × (length first.now ≤ 40) }
 {
-    let mut request = [0u8; 40];
-    cip::copy_into(&mut request, 0, first);
+    let mut request = [0; 40];
+    request[..first.len()].copy_from_slice(first);
     let at = first.len() - 2 * size;
     let ors = next.len() - 2 * size;
     let ands = next.len() - size;
@@ -52,14 +50,15 @@ fn row(to: &impl Print, first: &[u8], next: &[u8], start: usize, size: usize) ->
     let mut single = plant::MEMORY;
     send(to, &mut single, &request[..n])?;
     left(to, &single, start, size)?;
-    if input::options::same(&clicked, &single) {
-        return out::text(to, b"the same memory\n");
+    if clicked == single {
+        println!(to; "the same memory")
+    } else {
+        println!(to; "another memory")
     }
-    out::text(to, b"another memory\n")
 }
 
-/// The page's rows: `Count` five times, once by its instance ID; `Rows` and `Rows[0]`; `Grid`; `Step` in two spellings.
-pub fn rows(to: &impl Print) -> io::Result<()> {
+/// `Count` five times, once by its instance ID.
+fn rows_of_count(to: &impl Print) -> io::Result<()> {
     row(
         to,
         b"\x4E\x04\x91\x05Count\x00\x04\x00\x01\x00\x00\x00\x0F\x00\x00\x00",
@@ -94,7 +93,11 @@ pub fn rows(to: &impl Print) -> io::Result<()> {
         b"\x4E\x02\x20\x6B\x24\x01\x04\x00\x05\x00\x00\x00\xFE\xFF\xFF\xFF",
         0,
         4,
-    )?;
+    )
+}
+
+/// `Rows` and `Rows[0]`; `Grid`; `Step` in two spellings.
+fn rows_of_others(to: &impl Print) -> io::Result<()> {
     row(
         to,
         b"\x4E\x03\x91\x04Rows\x04\x00\x10\x20\x00\x00\xF0\xFF\xFF\xFF",
@@ -116,6 +119,12 @@ pub fn rows(to: &impl Print) -> io::Result<()> {
         188,
         2,
     )
+}
+
+/// The page's rows.
+pub fn rows(to: &impl Print) -> io::Result<()> {
+    rows_of_count(to)?;
+    rows_of_others(to)
 }
 
 /// A write between the two changes tag memory, and the row is none; a masked write that is not accepted leaves the first one's bytes.
@@ -162,11 +171,11 @@ fn pairs(
     let mut joined_ors = ors;
     let mut joined_ands = ands;
     if writes::masks::join_masks(&mut joined_ors, &mut joined_ands, next_ors, next_ands) {
-        show(to, b"joined OR", &joined_ors)?;
-        return show(to, b"joined AND", &joined_ands);
+        show(to, "joined OR", &joined_ors)?;
+        return show(to, "joined AND", &joined_ands);
     }
-    show(to, b"not joined OR", &joined_ors)?;
-    show(to, b"not joined AND", &joined_ands)
+    show(to, "not joined OR", &joined_ors)?;
+    show(to, "not joined AND", &joined_ands)
 }
 
 /// Masks alone: the first rows; an OR mask that the first AND mask does not narrow; masks of different lengths, which stay as they were.
@@ -205,9 +214,9 @@ pub fn masks(to: &impl Print) -> io::Result<()> {
 fn request(to: &impl Print, next: &[u8]) -> io::Result<()> {
     let mut joined = *b"\x4E\x04\x91\x05Count\x00\x04\x00\x01\x00\x00\x00\x0F\x00\x00\x00";
     if input::clicks::join(&mut joined, next) {
-        return show(to, b"one request", &joined);
+        return show(to, "one request", &joined);
     }
-    show(to, b"not joined", next)
+    show(to, "not joined", next)
 }
 
 pub fn requests(to: &impl Print) -> io::Result<()> {

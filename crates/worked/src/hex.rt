@@ -1,17 +1,15 @@
 // Bytes as they are written in document 02.
-use std::io;
-use wording::out;
+use std::fmt;
 
-/// The first n bytes, two digits each, with a space before each.
-pub fn bytes(to: &impl Print, s: &[u8], n: usize) -> io::Result<()> {
-    let mut i = 0;
-    while i < s.len() {
-        if i < n {
-            let b = s[i];
-            out::text(to, b" ")?;
-            print!(to; "{b:02x}")?;
+/// Two digits for each byte, with a space before them. `bench` has the same: a crate for these lines, which both would name, is no plainer.
+#[derive(Clone, Copy)]
+pub struct Hex<'a>(pub &'a [u8]);
+
+impl<'a> fmt::Display for Hex<'a> {
+    fn fmt<W: fmt::Write>(&self, f: &mut fmt::Formatter<W>) -> fmt::Result {
+        for b in self.0 {
+            write!(f, " {b:02x}")?;
         }
-        i += 1;
+        Ok(())
     }
-    Ok(())
 }

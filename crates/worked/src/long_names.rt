@@ -1,185 +1,131 @@
-// P2: which names an other symbol may have, and that rows of other tables may have none that is longer than before.
-use cip::numbers;
-use std::io;
-use wording::{MEMBERS, OTHERS, PROGRAMS, STRUCTURES, TAGS, out};
+// P2: which names an other symbol may have, and that rows of other tables may have none that is longer.
+use crate::plant::NO_ROWS;
+use model::Tables;
+use std::{fmt, io};
+use tables::rules::Table;
+use wording::name::Signs;
 
-/// A store that starts with a name, and the name's length.
-#[derive(Drop)]
-struct Name {
-    store: [u8; 64],
-    length: u32,
+/// A name by its start, and how often a byte stands behind that: "Task:", then 40 times x.
+#[derive(Clone, Copy)]
+struct Name<'a> {
+    start: &'a [u8],
+    count: u32,
+    byte: u8,
 }
 
-/// Says a name: "Task:", then 40 times x.
-fn describe(to: &impl Print, start: &[u8], count: u32, byte: u8) -> io::Result<()> {
-    out::text(to, b"\"")?;
-    out::signs(to, start)?;
-    out::text(to, b"\"")?;
-    if count > 0 {
-        out::text(to, b", then ")?;
-        out::number(to, numbers::wide(count))?;
-        out::text(to, b" times ")?;
-        let one = [byte];
-        out::signs(to, &one)?;
+impl<'a> fmt::Display for Name<'a> {
+    fn fmt<W: fmt::Write>(&self, f: &mut fmt::Formatter<W>) -> fmt::Result {
+        write!(f, "\"{}\"", Signs(self.start))?;
+        if self.count == 0 {
+            return Ok(());
+        }
+        let byte = [self.byte];
+        write!(f, ", then {} times {}", self.count, Signs(&byte))
     }
-    out::text(to, b": ")
 }
 
-/// A start, and behind it so many times a byte.
-fn named(to: &impl Print, start: &[u8], count: u32, byte: u8) -> io::Result<Name> {
-    describe(to, start, count, byte)?;
-    let mut store = [byte; 64];
-    let n = numbers::smaller(start.len(), 64);
-    let mut i = 0;
-    while i < n {
-        store[i] = start[i];
-        i += 1;
+impl<'a> Name<'a> {
+    /// A store that starts with the name.
+    fn store(self) -> [u8; 64] {
+        let mut store = [self.byte; 64];
+        let n = self.start.len().min(64);
+        store[..n].copy_from_slice(&self.start[..n]);
+        store
     }
-    let first = numbers::word16(numbers::low16_size(n));
-    Ok(Name {
-        store: store,
-        length: std::num::wrapping_add_u32(first, count),
-    })
+
+    fn length(self) -> u32 {
+        let first = self.start.len().min(64) as u32;
+        first.wrapping_add(self.count)
+    }
 }
 
-/// Judges a table set whose names all stand in one store.
-fn judge(
-    to: &impl Print,
-    structures: &[[u32; 10]],
-    members: &[[u32; 9]],
-    programs: &[[u32; 2]],
-    tags: &[[u32; 12]],
-    others: &[[u32; 5]],
-    names: &[u8],
-) -> io::Result<()> {
-    let templates = [0u8; 0];
-    let memory = [0u8; 4];
-    wording::tell(
-        to, structures, members, programs, tags, others, names, names, &templates, &memory,
-    )
+fn judge(to: &impl Print, tables: Tables) -> io::Result<()> {
+    wording::tell(to, &tables, &[0; 4])
 }
 
-/// Judges a table set whose one row, in this table, has a name.
-fn only(to: &impl Print, table: u32, n: Name) -> io::Result<()> {
-    let length = n.length;
-    let store = n.store;
-    let no_structure = [[0u32; 10]; 0];
-    let no_member = [[0u32; 9]; 0];
-    let no_program = [[0u32; 2]; 0];
-    let no_tag = [[0u32; 12]; 0];
-    let no_other = [[0u32; 5]; 0];
+/// Says a name, and judges a table set whose one row, in this table, has it.
+fn only(to: &impl Print, table: Table, name: Name) -> io::Result<()> {
+    print!(to; "{name}: ")?;
+    let length = name.length();
+    let store = name.store();
+    let named = Tables {
+        names: &store,
+        tag_names: &store,
+        ..NO_ROWS
+    };
     match table {
-        STRUCTURES => {
-            let rows = [[0, length, 0x100, 0x1234, 4, 0, 0, 0, 0, 0]];
+        Table::Structures => {
+            let structures = &[[0, length, 0x100, 0x1234, 4, 0, 0, 0, 0, 0]];
             judge(
                 to,
-                &rows,
-                &no_member,
-                &no_program,
-                &no_tag,
-                &no_other,
-                &store,
+                Tables {
+                    structures,
+                    ..named
+                },
             )
         }
-        MEMBERS => {
-            let rows = [[0, length, 0xC4, 0, 0, 8, 0, 0, 0]];
-            judge(
-                to,
-                &no_structure,
-                &rows,
-                &no_program,
-                &no_tag,
-                &no_other,
-                &store,
-            )
+        Table::Members => {
+            let members = &[[0, length, 0xC4, 0, 0, 8, 0, 0, 0]];
+            judge(to, Tables { members, ..named })
         }
-        PROGRAMS => {
-            let rows = [[0, length]];
-            judge(
-                to,
-                &no_structure,
-                &no_member,
-                &rows,
-                &no_tag,
-                &no_other,
-                &store,
-            )
+        Table::Programs => {
+            let programs = &[[0, length]];
+            judge(to, Tables { programs, ..named })
         }
-        TAGS => {
-            let rows = [[0, 0, length, 9, 0xC4, 0, 0, 0, 1, 0, 0, 0]];
-            judge(
-                to,
-                &no_structure,
-                &no_member,
-                &no_program,
-                &rows,
-                &no_other,
-                &store,
-            )
+        Table::Tags => {
+            let tags = &[[0, 0, length, 9, 0xC4, 0, 0, 0, 1, 0, 0, 0]];
+            judge(to, Tables { tags, ..named })
         }
         _ => {
-            let rows = [[0, 0, length, 9, 0x1068]];
-            judge(
-                to,
-                &no_structure,
-                &no_member,
-                &no_program,
-                &no_tag,
-                &rows,
-                &store,
-            )
+            let others = &[[0, 0, length, 9, 0x1068]];
+            judge(to, Tables { others, ..named })
         }
     }
 }
 
-fn other(to: &impl Print, n: Name) -> io::Result<()> {
-    only(to, OTHERS, n)
+/// Judges a table set whose one row is an other symbol with this start, and behind it so many times a byte.
+fn other(to: &impl Print, start: &[u8], count: u32, byte: u8) -> io::Result<()> {
+    only(to, Table::Others, Name { start, count, byte })
 }
 
 /// Names that an other symbol may have.
 fn long_enough(to: &impl Print) -> io::Result<()> {
-    other(
-        to,
-        named(to, b"Program:BottlingHallNorthFillerAndCapperLine", 0, b'x')?,
-    )?;
-    other(to, named(to, b"PROGRAM:", 40, b'x')?)?;
-    other(to, named(to, b"rOuTiNe:", 40, b'x')?)?;
-    other(to, named(to, b"Task:", 40, b'x')?)?;
-    other(to, named(to, b"Program:", 0, b'x')?)?;
-    other(to, named(to, b"task:", 0, b'x')?)?;
-    other(to, named(to, b"", 40, b'x')?)?;
-    other(to, named(to, b"Map:", 36, b'x')?)?;
-    other(to, named(to, b"Program:Task:", 35, b'x')?)
+    other(to, b"Program:BottlingHallNorthFillerAndCapperLine", 0, b'x')?;
+    other(to, b"PROGRAM:", 40, b'x')?;
+    other(to, b"rOuTiNe:", 40, b'x')?;
+    other(to, b"Task:", 40, b'x')?;
+    other(to, b"Program:", 0, b'x')?;
+    other(to, b"task:", 0, b'x')?;
+    other(to, b"", 40, b'x')?;
+    other(to, b"Map:", 36, b'x')?;
+    other(to, b"Program:Task:", 35, b'x')
 }
 
 /// Names with a byte too many, or none.
 fn too_long(to: &impl Print) -> io::Result<()> {
-    other(to, named(to, b"Program:", 41, b'x')?)?;
-    other(to, named(to, b"PROGRAM:", 41, b'x')?)?;
-    other(to, named(to, b"rOuTiNe:", 41, b'x')?)?;
-    other(to, named(to, b"Task:", 41, b'x')?)?;
-    other(to, named(to, b"Task:", 43, b'x')?)?;
-    other(to, named(to, b"", 41, b'x')?)?;
-    other(to, named(to, b"", 0, b'x')?)?;
-    other(to, named(to, b"Map:", 37, b'x')?)?;
-    other(to, named(to, b"Program:Task:", 36, b'x')?)
+    other(to, b"Program:", 41, b'x')?;
+    other(to, b"PROGRAM:", 41, b'x')?;
+    other(to, b"rOuTiNe:", 41, b'x')?;
+    other(to, b"Task:", 41, b'x')?;
+    other(to, b"Task:", 43, b'x')?;
+    other(to, b"", 41, b'x')?;
+    other(to, b"", 0, b'x')?;
+    other(to, b"Map:", 37, b'x')?;
+    other(to, b"Program:Task:", 36, b'x')
 }
 
 /// What is no prefix, and bytes that no name has.
 fn no_names(to: &impl Print) -> io::Result<()> {
-    other(to, named(to, b"Programs:", 32, b'x')?)?;
-    other(to, named(to, b"xProgram:", 32, b'x')?)?;
-    other(to, named(to, b"Program", 34, b'x')?)?;
+    other(to, b"Programs:", 32, b'x')?;
+    other(to, b"xProgram:", 32, b'x')?;
+    other(to, b"Program", 34, b'x')?;
     other(
         to,
-        named(
-            to,
-            b"Program:xxxxxxxxxxxxxxxxxxxxxxxxxxxxxxxxxxxxxxx",
-            1,
-            0x7F,
-        )?,
+        b"Program:xxxxxxxxxxxxxxxxxxxxxxxxxxxxxxxxxxxxxxx",
+        1,
+        0x7F,
     )?;
-    other(to, named(to, b"Program:", 34, 0x1F)?)
+    other(to, b"Program:", 34, 0x1F)
 }
 
 pub fn other_symbols(to: &impl Print) -> io::Result<()> {
@@ -190,9 +136,14 @@ pub fn other_symbols(to: &impl Print) -> io::Result<()> {
 
 /// The same name in each table: only the other symbol may have it.
 pub fn other_tables(to: &impl Print) -> io::Result<()> {
-    other(to, named(to, b"Program:", 33, b'q')?)?;
-    only(to, TAGS, named(to, b"Program:", 33, b'q')?)?;
-    only(to, PROGRAMS, named(to, b"Program:", 33, b'q')?)?;
-    only(to, STRUCTURES, named(to, b"Program:", 33, b'q')?)?;
-    only(to, MEMBERS, named(to, b"Program:", 33, b'q')?)
+    let name = Name {
+        start: b"Program:",
+        count: 33,
+        byte: b'q',
+    };
+    only(to, Table::Others, name)?;
+    only(to, Table::Tags, name)?;
+    only(to, Table::Programs, name)?;
+    only(to, Table::Structures, name)?;
+    only(to, Table::Members, name)
 }

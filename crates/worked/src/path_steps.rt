@@ -1,74 +1,67 @@
 // P5: paths and their segments, each with the table's entry of its first byte and the position behind it.
-use crate::hex;
-use cip::numbers;
-use path::{Segment, table};
+use crate::hex::Hex;
+use path::table::{First, Format, Logical};
+use path::{Segment, Step, table};
 use std::io;
-use wording::out;
+use wording::name::Signs;
 
-fn next_at(to: &impl Print, next: usize) -> io::Result<()> {
-    out::text(to, b", next ")?;
-    out::number(to, next)
+/// The number of a first byte's entry: four for each kind, in the order of the table's types.
+fn number_of(entry: Option<First>) -> u32 {
+    match entry {
+        None => 0,
+        Some(First::Port { numbered, sized }) => 4 + 2 * u32::from(numbered) + u32::from(sized),
+        Some(First::Logical(logical, format)) => {
+            let kind = match logical {
+                Logical::Class => 8,
+                Logical::Instance => 12,
+                Logical::Element => 16,
+                Logical::Attribute => 20,
+            };
+            kind + match format {
+                Format::Bits8 => 0,
+                Format::PadAnd16 => 1,
+                Format::PadAnd32 => 2,
+                Format::Reserved => 3,
+            }
+        }
+        Some(First::Symbol) => 24,
+    }
 }
 
-fn logical(to: &impl Print, kind: &[u8], x: u32, next: usize) -> io::Result<()> {
-    out::text(to, kind)?;
-    out::text(to, b" 0x")?;
-    print!(to; "{x:x}")?;
-    next_at(to, next)
-}
-
-fn symbol(to: &impl Print, path: &[u8], start: usize, n: usize, next: usize) -> io::Result<()> {
-    out::text(to, b" symbol \"")?;
-    if n <= path.len() {
-        if start <= path.len() - n {
-            out::signs(to, &path[start..start + n])?;
+/// Says the segment that starts at a position.
+fn step(to: &impl Print, at: usize, step: Step) -> io::Result<()> {
+    match step.segment {
+        Segment::Port => print!(to; " port")?,
+        Segment::Class(x) => print!(to; " class 0x{x:x}")?,
+        Segment::Instance(x) => print!(to; " instance 0x{x:x}")?,
+        Segment::Element(x) => print!(to; " element 0x{x:x}")?,
+        Segment::Attribute(x) => print!(to; " attribute 0x{x:x}")?,
+        Segment::Symbol(name) => {
+            let start = at.saturating_add(2);
+            print!(to;
+                " symbol \"{}\", start {start}, length {}",
+                Signs(name),
+                name.len()
+            )?
         }
     }
-    out::text(to, b"\", start ")?;
-    out::number(to, start)?;
-    out::text(to, b", length ")?;
-    out::number(to, n)?;
-    next_at(to, next)
+    print!(to; ", next {}", step.next)
 }
 
-fn port(to: &impl Print, next: usize) -> io::Result<()> {
-    out::text(to, b" port")?;
-    next_at(to, next)
-}
-
-/// Says the segment at a position, if one starts there; then where to go on, which is the path's end behind one that is none.
-fn segment(to: &impl Print, path: &[u8], at: usize) -> io::Result<usize> {
-    if at >= path.len() {
-        return Ok(at);
-    }
-    out::text(to, b"; entry ")?;
-    out::number(to, numbers::wide(numbers::word8(table::entry_of(path[at]))))?;
-    out::text(to, b":")?;
-    let s = path::segment_at(path, at);
-    match s {
-        Segment::Port(next) => port(to, next)?,
-        Segment::Class(x, next) => logical(to, b" class", x, next)?,
-        Segment::Instance(x, next) => logical(to, b" instance", x, next)?,
-        Segment::Element(x, next) => logical(to, b" element", x, next)?,
-        Segment::Attribute(x, next) => logical(to, b" attribute", x, next)?,
-        Segment::Symbol(start, n, next) => symbol(to, path, start, n, next)?,
-        Segment::Invalid => out::text(to, b" none")?,
-    }
-    let next = path::next_of(s);
-    Ok(if next == 0 { path.len() } else { next })
-}
-
-/// Says a path and its segments, up to one that is none. A path has no more segments than bytes.
+/// Says a path and its segments, up to one that is none.
+#[tactic(auto, using(path::proofs::Forward::step_inside))]
 fn show(to: &impl Print, path: &[u8]) -> io::Result<()> {
-    out::text(to, b"path")?;
-    hex::bytes(to, path, path.len())?;
+    print!(to; "path{}", Hex(path))?;
     let mut at = 0;
-    let mut i = 0;
-    while i < path.len() {
-        at = segment(to, path, at)?;
-        i += 1;
+    while at < path.len() {
+        print!(to; "; entry {}:", number_of(table::first_of(path[at])))?;
+        let Some(found) = path::segment_at(path, at) else {
+            return println!(to; " none");
+        };
+        step(to, at, found)?;
+        at = found.next;
     }
-    out::text(to, b"\n")
+    println!(to;)
 }
 
 /// Logical segments in the three formats; a pad holds anything.

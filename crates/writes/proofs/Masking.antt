@@ -1,187 +1,143 @@
--- Masked writes: the turns of the loops over the bytes, the answer by what the code did, and masks joined.
+-- Masked writes: the turns of the loops over the bytes, and masks joined.
 -- Assumes nothing.
-use mathlib.Core.Path.{◌≡◌, sym, ap, ap₂, ◌∙◌, refl}
-use mathlib.Core.Bool.{Bool, true, false}
+use mathlib.Core.Path.{◌≡◌, sym, ap, ◌∙◌, refl}
+use mathlib.Core.Bool.{true}
 use mathlib.Core.List.{List, ◌++◌}
 use Prim.Native.Nat.{ℕ, ◌+◌, ◌-◌, ◌*◌, ◌≤◌, ◌<◌}
-use native.Mathlib.Numerals.{add-one}
 use native.Mathlib.Omega.{arith}
 use lib.Bits.{bit_or, bit_and}
 use lib.Dec.{eqb}
-use lib.ListN.{length, get_or, set, take, drop}
-use lib.Seq.{paste, paste-suc, drop-paste, get_or-take, get_or-drop, take_all}
-use borrow.Author.Tests.{lt-ltb, le-ltb, eqb-true, eq-eqb}
+use lib.ListN.{length, get_or, set, take, drop, length-set}
+use borrow.Author.Tests.{eqb-true, eqb-false, le-ltb}
+use Rattle.std.proofs.lemmas.List.{get_or-set_same, get_or-set_other}
+use Rattle.std.proofs.lemmas.Grind.{same_number_lists}
 use Rattle.laws.specs.Put.{put}
-use Rattle.laws.proofs.Put.{paste-put, put_all, put_then, drop_put_past, length_part}
+use Rattle.laws.proofs.Chain.{by_test}
+use Rattle.laws.proofs.Put.{put_then, drop_put_past, length_part, length-put, mid-put}
 use Rattle.laws.proofs.Tests.{both_true}
+use borrow.Rule.Slice.PartMut.{put_mid}
+use Rattle.std.specs.Prelude.{Ok}
 use Rattle.definition.specs.Bytes.{u16_at, part}
 use Rattle.definition.specs.Tables.{no_bit}
 use Rattle.definition.specs.Types.{atomic_size, has_bits}
 use Rattle.definition.specs.Resolve.{Target}
+use Rattle.writes.specs.Storing.{Stores}
+use Rattle.writes.proofs.Storing.{puts}
 use Rattle.definition.specs.Masked.{masked, takes_mask, masked_stored}
-use Rattle.definition.specs.Joined.{Masks, pair, join_ors, joinable, joined_to}
+use Rattle.definition.specs.Joined.{Masks, join_ors, joinable}
 use Rattle.definition.proofs.Joined.{ors_at_any_width}
 use Rattle.definition.proofs.Theorems.{masked_at_any_width}
-use Rattle.cip.specs.declared.Status.TheVariants.{Success, TooShort, TooLong, WrongType}
-use Rattle.writes.specs.Storing.{Stores}
-use Rattle.writes.proofs.Storing.{refuses, puts}
 
--- ---- a loop that changes bytes in place, each by itself: after j turns the first j are as they are to be
+-- ---- a loop that changes bytes in place, each by itself: the first j are changed, and the rest is as it was
 
-module _ (old : List ℕ) (at : ℕ) (made : List ℕ) (by : (i b : ℕ) → ℕ) (fits : at + length made ≤ length old)
-    (each : (i : ℕ) → i < length made → get_or made i 0 ≡ by i (get_or (part old at (length made)) i 0))
-    (cur : List ℕ) (j : ℕ) (so_far : cur ≡ paste old at made j) where
-  -- the byte that comes next is still as it was
-  next_byte : j < length made → get_or cur (at + j) 0 ≡ get_or (part old at (length made)) j 0
-  next_byte h =
-      let e : at + j ≡ at + j + 0 = omega arith in
-      let d : drop (at + j) cur ≡ drop (at + j) old = ap (drop (at + j)) so_far ∙ drop-paste old at made j (omega arith) (omega arith) in
-      ap (λ (k : ℕ). get_or cur k 0) e ∙ sym (get_or-drop (at + j) cur 0 0) ∙ ap (λ (l : List ℕ). get_or l 0 0) d
-      ∙ get_or-drop (at + j) old 0 0 ∙ ap (λ (k : ℕ). get_or old k 0) (sym e)
-      ∙ sym (get_or-take (length made) (drop at old) j 0 h ∙ get_or-drop at old j 0)
+pub record Changed (by : (i b : ℕ) → ℕ) (old : List ℕ) (j : ℕ) (cur : List ℕ) : Type 0 where
+  pub long : length cur ≡ length old
+  pub done : (k : ℕ) → k < j → get_or cur k 0 ≡ by k (get_or old k 0)
+  pub rest : (k : ℕ) → j ≤ k → get_or cur k 0 ≡ get_or old k 0
 
-  byte_turn : (v k : ℕ) → j < length made → v ≡ by j (get_or cur (at + j) 0) → k ≡ j + 1 → set cur (at + j) v ≡ paste old at made k
-  byte_turn v k h e q =
-      let w : v ≡ get_or made j 0 = e ∙ ap (by j) (next_byte h) ∙ sym (each j h) in
-      ap (λ (b : ℕ). set cur (at + j) b) w ∙ ap (λ (l : List ℕ). set l (at + j) (get_or made j 0)) so_far
-      ∙ paste-suc old at made j 0 (omega arith) (omega arith)
-      ∙ ap (paste old at made) (sym (q ∙ add-one j))
+module _ (by : (i b : ℕ) → ℕ) (old : List ℕ) where
+  pub none_changed : Changed by old 0 old
+  none_changed = record { long = refl; done = λ k h. absurd (omega arith); rest = λ k h. refl }
 
--- ---- masks laid on bytes of tag memory
+  pub one_more : (j : ℕ) (cur : List ℕ) → Changed by old j cur → (v n : ℕ) → j < length old → v ≡ by j (get_or cur j 0) → n ≡ j + 1
+      → Changed by old n (set cur j v)
+  one_more j cur c v n h e q = record {
+    long = length-set cur j v ∙ c.long;
+    done = λ k l.
+        by_test (eqb k j)
+        (λ t. let here = eqb-true k j t in rw here (get_or-set_same cur j v 0 (omega (arith, c.long)) ∙ e ∙ ap (by j) (c.rest j (omega arith))))
+        (λ t. let other = eqb-false k j t in get_or-set_other cur j k v 0 other ∙ c.done k (omega (arith, other)));
+    rest = λ k l. get_or-set_other cur j k v 0 (omega arith) ∙ c.rest k (omega arith);
+  }
 
-module _ (old : List ℕ) (at : ℕ) (ors ands : List ℕ) (same : length ands ≡ length ors) (fits : at + length ors ≤ length old) where
-  abbrev bytes : List ℕ
-  bytes = part old at (length ors)
+  pub all_changed : (j : ℕ) (cur made : List ℕ) → Changed by old j cur → length old ≤ j → length made ≡ length old
+      → ((i : ℕ) → i < length old → get_or made i 0 ≡ by i (get_or old i 0)) → cur ≡ made
+  all_changed j cur made c h n each =
+      same_number_lists cur made (c.long ∙ sym n) (λ k l. c.done k (omega (arith, c.long)) ∙ sym (each k (omega (arith, c.long))))
 
-  as_long : length bytes ≡ length ors
-  as_long = length_part old at (length ors) fits
+pub masks_applied : (old ors ands cur : List ℕ) (j : ℕ) → length ors ≡ length old → length ands ≡ length old
+    → Changed (λ i b. bit_and (bit_or b (get_or ors i 0)) (get_or ands i 0)) old j cur → length old ≤ j → cur ≡ masked old ors ands
+masks_applied old ors ands cur j o n c h =
+    let w = masked_at_any_width old ors ands o n in
+    all_changed (λ i b. bit_and (bit_or b (get_or ors i 0)) (get_or ands i 0)) old j cur (masked old ors ands) c h w.0 w.1
 
-  widths : (length (masked bytes ors ands) ≡ length bytes)
-      × ((i : ℕ) → i < length bytes → get_or (masked bytes ors ands) i 0 ≡ bit_and (bit_or (get_or bytes i 0) (get_or ors i 0)) (get_or ands i 0))
-  widths = masked_at_any_width bytes ors ands (sym as_long) (same ∙ sym as_long)
+pub ors_added : (old next cur : List ℕ) (j : ℕ) → length next ≡ length old → Changed (λ i b. bit_or b (get_or next i 0)) old j cur → length old ≤ j
+    → cur ≡ join_ors old next
+ors_added old next cur j n c h =
+    let w = ors_at_any_width old next n in
+    all_changed (λ i b. bit_or b (get_or next i 0)) old j cur (join_ors old next) c h w.0 w.1
 
-  made_long : length (masked bytes ors ands) ≡ length ors
-  made_long = widths.0 ∙ as_long
+pub ruleset turns = (none_changed, one_more, masks_applied, ors_added)
 
-  module _ (cur : List ℕ) (j : ℕ) (so_far : cur ≡ paste old at (masked bytes ors ands) j) where
-    pub mask_turn : (v k : ℕ) → j < length ors → v ≡ bit_and (bit_or (get_or cur (at + j) 0) (get_or ors j 0)) (get_or ands j 0) → k ≡ j + 1
-        → set cur (at + j) v ≡ paste old at (masked bytes ors ands) k
-    mask_turn v k h e q =
-        let n = made_long in
-        byte_turn old at (masked bytes ors ands) (λ i b. bit_and (bit_or b (get_or ors i 0)) (get_or ands i 0)) (omega arith)
-        (λ i l. rw n (widths.1 i (omega (arith, as_long)))) cur j so_far v k (omega arith) e q
+-- ---- masks laid on a part that was lent
 
-    pub mask_end : j ≤ length ors → length ors ≤ j → cur ≡ put old at (masked bytes ors ands)
-    mask_end h k = so_far ∙ paste-put old at (masked bytes ors ands) j (omega (arith, made_long))
+pub masks_there : (xs : List ℕ) (at size : ℕ) (ors ands new : List ℕ) → at + size ≤ length xs → length ors ≡ size → length ands ≡ size
+    → new ≡ masked (take (at + size - at) (drop at xs)) ors ands → put_mid at (at + size - at) xs new ≡ put xs at (masked (part xs at size) ors ands)
+masks_there xs at size ors ands new fits o n e =
+    let cut : at + size - at ≡ size = omega arith in
+    let long = length_part xs at size fits in
+    let w = masked_at_any_width (part xs at size) ors ands (o ∙ sym long) (n ∙ sym long) in
+    mid-put xs at (at + size - at) (masked (part xs at size) ors ands) new (rw cut at e) (cut ∙ sym (w.0 ∙ long))
 
--- ---- masks joined
-
-module _ (old : List ℕ) (at : ℕ) (next : List ℕ) (fits : at + length next ≤ length old) where
-  abbrev first_ors : List ℕ
-  first_ors = part old at (length next)
-
-  ors_widths : (length (join_ors first_ors next) ≡ length next)
-      × ((i : ℕ) → i < length next → get_or (join_ors first_ors next) i 0 ≡ bit_or (get_or first_ors i 0) (get_or next i 0))
-  ors_widths =
-      let n = length_part old at (length next) fits in
-      rw n at (ors_at_any_width first_ors next (sym n))
-
-  module _ (cur : List ℕ) (j : ℕ) (so_far : cur ≡ paste old at (join_ors first_ors next) j) where
-    pub or_turn : (v k : ℕ) → j < length next → v ≡ bit_or (get_or cur (at + j) 0) (get_or next j 0) → k ≡ j + 1
-        → set cur (at + j) v ≡ paste old at (join_ors first_ors next) k
-    or_turn v k h e q =
-        let n = ors_widths.0 in
-        byte_turn old at (join_ors first_ors next) (λ i b. bit_or b (get_or next i 0)) (omega arith)
-        (λ i l. rw n (ors_widths.1 i (omega arith))) cur j so_far v k (omega arith) e q
-
-    pub or_end : j ≤ length next → length next ≤ j → cur ≡ put old at (join_ors first_ors next)
-    or_end h k = so_far ∙ paste-put old at (join_ors first_ors next) j (omega (arith, ors_widths.0))
-
--- a whole mask, joined where it stands alone
-whole_mask : (old next new : List ℕ) (made : List ℕ → List ℕ) → length next ≡ length old → length (made old) ≡ length old
-    → new ≡ put old 0 (made (part old 0 (length next))) → new ≡ made old
-whole_mask old next new made p n e = rw (take_all (length next) old (omega arith)) at e ∙ put_all old (made old) n
-
-module _ (first next : Masks) where
-  -- two of the four lengths differ
-  pub not-joined : joinable first next ≡ false → (false ≡ joinable first next) × (first ≡ joined_to first next)
-  not-joined e = rw e (refl, refl)
-
-  module _ (a : length first.ands ≡ length first.ors) (o : length next.ors ≡ length first.ors) (n : length next.ands ≡ length first.ors) where
-    pub all-joined : (ors ands : List ℕ) → ors ≡ put first.ors 0 (join_ors (part first.ors 0 (length next.ors)) next.ors)
-        → ands ≡ put first.ands 0 (masked (part first.ands 0 (length next.ors)) next.ors next.ands)
-        → (true ≡ joinable first next) × (pair ors ands ≡ joined_to first next)
-    unfolding joinable
-    all-joined ors ands p q =
-        let x = whole_mask first.ors next.ors ors (λ b. join_ors b next.ors) o (ors_at_any_width first.ors next.ors o).0 p in
-        let y =
-        whole_mask first.ands next.ors ands (λ b. masked b next.ors next.ands) (o ∙ sym a)
-        (masked_at_any_width first.ands next.ors next.ands (o ∙ sym a) (n ∙ sym a)).0 q in
-        rw (eq-eqb _ _ a, eq-eqb _ _ o, eq-eqb _ _ n) (refl, ap₂ pair x y)
+pub ors_there : (xs : List ℕ) (at : ℕ) (next new : List ℕ) → at + length next ≤ length xs
+    → new ≡ join_ors (take (at + length next - at) (drop at xs)) next
+    → put_mid at (at + length next - at) xs new ≡ put xs at (join_ors (part xs at (length next)) next)
+ors_there xs at next new fits e =
+    let cut : at + length next - at ≡ length next = omega arith in
+    let long = length_part xs at (length next) fits in
+    let w = ors_at_any_width (part xs at (length next)) next (sym long) in
+    mid-put xs at (at + length next - at) (join_ors (part xs at (length next)) next) new (rw cut at e) (cut ∙ sym (w.0 ∙ long))
 
 -- both masks where they stand in a request: the second write finds the AND masks as they were, and continues the first
-pub joined_at : (request : List ℕ) (at : ℕ) (ors ands one two : List ℕ) → length ands ≡ length ors → at + 2 * length ors ≤ length request
-    → one ≡ put request at (join_ors (part request at (length ors)) ors)
-    → two ≡ put one (at + length ors) (masked (part one (at + length ors) (length ors)) ors ands)
-    → two ≡ put request at (join_ors (part request at (length ors)) ors ++ masked (part request (at + length ors) (length ors)) ors ands)
-joined_at request at ors ands one two same fits e f =
+pub joined_at : (request : List ℕ) (at : ℕ) (ors ands x y : List ℕ) → length ands ≡ length ors → at + 2 * length ors ≤ length request
+    → x ≡ join_ors (take (at + length ors - at) (drop at request)) ors
+    → y ≡ masked (take (at + length ors + length ors - (at + length ors)) (drop (at + length ors) (put_mid at (at + length ors - at) request x))) ors ands
+    → put_mid (at + length ors) (at + length ors + length ors - (at + length ors)) (put_mid at (at + length ors - at) request x) y
+    ≡ put request at (join_ors (part request at (length ors)) ors ++ masked (part request (at + length ors) (length ors)) ors ands)
+joined_at request at ors ands x y same fits e f =
     let n = length ors in
     let made = join_ors (part request at n) ors in
-    let k : length made ≡ n = (ors_widths request at ors (omega arith)).0 in
     let rest = part request (at + n) n in
+    let one = put_mid at (at + n - at) request x in
+    let first = ors_there request at ors x (omega arith) e in
+    let long = length_part request at n (omega arith) in
+    let k : length made ≡ n = (ors_at_any_width (part request at n) ors (sym long)).0 ∙ long in
     let l : length rest ≡ n = length_part request (at + n) n (omega arith) in
     let m : length (masked rest ors ands) ≡ n = (masked_at_any_width rest ors ands (sym l) (same ∙ sym l)).0 ∙ l in
-    let there : part one (at + n) n ≡ rest = rw e (ap (take n) (drop_put_past request at made (omega arith) (at + n) (omega arith))) in
-    put_then request one two at made (at + n) (masked rest ors ands) e (rw there at f) (omega arith) (omega arith)
+    let size : length one ≡ length request = ap length first ∙ length-put request at made (omega arith) in
+    let second = masks_there one (at + n) n ors ands y (omega arith) refl same f in
+    let there : part one (at + n) n ≡ rest = rw first (ap (take n) (drop_put_past request at made (omega arith) (at + n) (omega arith))) in
+    put_then request one _ at made (at + n) (masked rest ors ands) first (rw there at second) (omega arith) (omega arith)
+
+-- ---- two pairs of one length
+
+pub joinable_lengths : (first next : Masks) → joinable first next ≡ true
+    → (length first.ands ≡ length first.ors) × (length next.ors ≡ length first.ors) × (length next.ands ≡ length first.ors)
+unfolding joinable
+joinable_lengths first next e =
+    let size = length first.ors in
+    let a = both_true (eqb (length first.ands) size) _ e in
+    let b = both_true (eqb (length next.ors) size) _ a.1 in
+    (eqb-true _ _ a.0, eqb-true _ _ b.0, eqb-true _ _ b.1)
 
 -- ---- the whole of a masked write
 
-module _ (memory : List ℕ) (g : Target) (body : List ℕ) where
-  pub no_size : length body < 2 → Stores (masked_stored memory g body) memory TooShort memory
+module _ (memory : List ℕ) (g : Target) (body : List ℕ) (size : ℕ) (takes : takes_mask g size ≡ true) where
+  pub masks_fit : g.start + atomic_size g.type ≤ length memory → g.start + size ≤ length memory
+  unfolding takes_mask
+  masks_fit h =
+      let b = both_true (has_bits g.type) _ (both_true (eqb g.bit no_bit) _ takes).1 in
+      let q = eqb-true (atomic_size g.type) size b.1 in
+      omega arith
+
+  pub masks_stored : (new : List ℕ) → size ≡ u16_at body 0 → 2 + 2 * size ≤ length body → length body ≤ 2 + 2 * size → g.start + size ≤ length memory
+      → new ≡ masked (take (g.start + size - g.start) (drop g.start memory)) (take (2 + size - 2) (drop 2 body))
+      (take (2 + 2 * size - (2 + size)) (drop (2 + size) body))
+      → Stores (masked_stored memory g body) memory (Ok tt) (put_mid g.start (g.start + size - g.start) memory new)
   unfolding masked_stored
-  no_size h = refuses _ _ _ _ (rw (lt-ltb (length body) (2 + 2 * u16_at body 0) (omega arith))) refl
-
-  module _ (size count : ℕ) (counts : count ≡ u16_at body 0) (wide : size ≡ count) where
-    pub masks-short : length body < 2 + 2 * size → Stores (masked_stored memory g body) memory TooShort memory
-    unfolding masked_stored
-    masks-short h = refuses _ _ _ _ (rw (← counts, ← wide, lt-ltb _ _ h)) refl
-
-    module _ (long : 2 + 2 * size ≤ length body) where
-      pub masks_long : 2 + 2 * size < length body → Stores (masked_stored memory g body) memory TooLong memory
-      unfolding masked_stored
-      masks_long h = refuses _ _ _ _ (rw (← counts, ← wide, le-ltb _ _ long, lt-ltb _ _ h)) refl
-
-      abbrev ors : List ℕ
-      ors = take (2 + size - 2) (drop 2 body)
-
-      abbrev ands : List ℕ
-      ands = take (2 + 2 * size - (2 + size)) (drop (2 + size) body)
-
-      ors_are : ors ≡ part body 2 size
-      ors_are = let n : 2 + size - 2 ≡ size = omega arith in rw n
-
-      ands_are : ands ≡ part body (2 + size) size
-      ands_are = let n : 2 + 2 * size - (2 + size) ≡ size = omega arith in rw n
-
-      module _ (short : length body ≤ 2 + 2 * size) (v : Bool) (asked : v ≡ takes_mask g size) where
-        pub masks_wrong : v ≡ false → Stores (masked_stored memory g body) memory WrongType memory
-        unfolding masked_stored
-        masks_wrong e = refuses _ _ _ _ (rw (← counts, ← wide, le-ltb _ _ long, le-ltb _ _ short, ← asked, e)) refl
-
-        masks-length : length ors ≡ size
-        masks-length = rw ors_are (length_part body 2 size (omega arith))
-
-        pub masks_fit : v ≡ true → g.start + atomic_size g.type ≤ length memory → (length ands ≡ length ors) × (g.start + length ors ≤ length memory)
-        unfolding takes_mask
-        masks_fit e h =
-            let b = both_true (has_bits g.type) _ (both_true (eqb g.bit no_bit) _ (sym asked ∙ e)).1 in
-            let q = eqb-true (atomic_size g.type) size b.1 in
-            let l = masks-length in
-            (rw ands_are (length_part body (2 + size) size (omega arith)) ∙ sym l, omega arith)
-
-        pub masks-put : (new : List ℕ) → v ≡ true → new ≡ put memory g.start (masked (part memory g.start (length ors)) ors ands)
-            → Stores (masked_stored memory g body) memory Success new
-        unfolding masked_stored
-        masks-put new e f =
-            puts _ _ _ _ _ (rw (← counts, ← wide, le-ltb _ _ long, le-ltb _ _ short, ← asked, e))
-            (rw (masks-length, ors_are, ands_are) at f)
+  masks_stored new counts long short fits e =
+      let n : 2 + size - 2 ≡ size = omega arith in
+      let k : 2 + 2 * size - (2 + size) ≡ size = omega arith in
+      puts _ _ _ _ _ (rw (← counts, le-ltb _ _ long, le-ltb _ _ short, takes))
+      (masks_there memory g.start size (part body 2 size) (part body (2 + size) size) new fits (length_part body 2 size (omega arith))
+      (length_part body (2 + size) size (omega arith)) (rw (n, k) at e))

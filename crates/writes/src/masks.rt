@@ -1,6 +1,5 @@
 // Masked writes (0x4E): OR first, then AND, byte by byte at any width; and the masks of two in a row joined into those of one.
 ghost use Rattle.std.specs.Prelude.{◌≡◌, [], ◌++◌, ◌+◌, ◌*◌, ◌≤◌, length};
-ghost use Rattle.std.specs.Int.Bits.{bit_or, bit_and};
 ghost use Rattle.laws.specs.Put.{put};
 ghost use Rattle.definition.specs.Bytes.{part};
 ghost use Rattle.definition.specs.Masked.{masked, takes_mask, masked_stored};
@@ -13,74 +12,72 @@ use cip::Status;
 use model::Target;
 use model::columns::NO_BIT;
 
-fn mask_byte(b: u8, ors: u8, ands: u8) -> u8
-    ensures { result ≡ bit_and (bit_or b ors) ands }
+/// Masks bytes, by as many OR masks and AND masks.
+#[tactic(auto, using(crate::proofs::Masking::turns))]
+fn apply_masks(bytes: &mut [u8], ors: &[u8], ands: &[u8])
+    requires { (length ors.now ≡ length bytes.old) × (length ands.now ≡ length bytes.old) }
+    ensures { bytes.new ≡ masked bytes.old ors.now ands.now }
 {
-    (b | ors) & ands
-}
-
-/// Masks as many bytes of memory as there are masks.
-fn apply_masks(memory: &mut [u8], at: usize, ors: &[u8], ands: &[u8])
-    requires { (length ands.now ≡ length ors.now) × (at + length ors.now ≤ length memory.old) }
-    ensures { memory.new ≡ put memory.old at (masked (part memory.old at (length ors.now))
-        ors.now ands.now) }
-{
-    let mut j = 0;
-    while j < ors.len() {
-        memory[at + j] = mask_byte(memory[at + j], ors[j], ands[j]);
-        j += 1;
+    // indexes, here and in `add_ors`: a `zip` on `iter_mut` leaves nothing that an invariant can say of the bytes
+    for (i, b) in bytes.iter_mut().enumerate() {
+        *b = (*b | ors[i]) & ands[i];
     }
 }
 
 /// Whether a target takes masks of a size: no structure, no bit, no BOOL, REAL or LREAL.
+#[tactic(auto, using(laws::proofs::Chain::tests), unfolding(definition::specs::Masked::takes_mask))]
 fn takes_mask(g: Target, size: usize) -> bool
     ensures { result ≡ takes_mask (target_of g []) size }
 {
-    if g.bit != NO_BIT {
-        return false;
-    }
-    if model::types::has_bits(g.ty) {
-        return cip::numbers::wide(model::types::atomic_size(g.ty)) == size;
-    }
-    false
+    g.bit == NO_BIT
+        && model::types::has_bits(g.ty)
+        && model::types::atomic_size(g.ty) as usize == size
 }
 
-/// A masked write to a resolved target's first element: Success, or why nothing was stored.
-pub fn masked_write(memory: &mut [u8], g: Target, body: &[u8]) -> Status
+/// A masked write to a resolved target's first element.
+#[tactic(auto, using(crate::proofs::Storing::stores), unfolding(definition::specs::Masked::masked_stored))]
+pub fn masked_write(memory: &mut [u8], g: Target, body: &[u8]) -> Result<(), Status>
     requires { g.start + atomic_size g.ty ≤ length memory.old }
     ensures { Stores (masked_stored memory.old (target_of g []) body.now) memory.old result memory.new }
 {
     if body.len() < 2 {
-        return Status::TooShort;
+        return Err(Status::TooShort);
     }
-    let size = cip::numbers::wide16(cip::u16_at(body, 0));
+    let size = usize::from(cip::u16_at(body, 0));
+    let ands = 2 + size;
     let end = 2 + 2 * size;
     if body.len() < end {
-        return Status::TooShort;
+        return Err(Status::TooShort);
     }
     if end < body.len() {
-        return Status::TooLong;
+        return Err(Status::TooLong);
     }
-    if takes_mask(g, size) {
-        let start = g.start;
-        let ands = 2 + size;
-        apply_masks(memory, start, &body[2..ands], &body[ands..end]);
-        return Status::Success;
+    if !takes_mask(g, size) {
+        return Err(Status::WrongType);
     }
-    Status::WrongType
+    let bytes = &mut memory[g.start..g.start + size];
+    apply_masks(bytes, &body[2..ands], &body[ands..end]);
+    Ok(())
 }
 
-/// Adds the bits of the next OR masks to as many that stand from a position on.
-fn add_ors(masks: &mut [u8], at: usize, next: &[u8])
-    requires { at + length next.now ≤ length masks.old }
-    ensures { masks.new ≡ put masks.old at (join_ors (part masks.old at (length next.now))
-        next.now) }
+/// Adds the bits of the next OR masks to as many OR masks.
+#[tactic(auto, using(crate::proofs::Masking::turns))]
+fn add_ors(ors: &mut [u8], next: &[u8])
+    requires { length next.now ≡ length ors.old }
+    ensures { ors.new ≡ join_ors ors.old next.now }
 {
-    let mut j = 0;
-    while j < next.len() {
-        masks[at + j] = masks[at + j] | next[j];
-        j += 1;
+    for (i, or) in ors.iter_mut().enumerate() {
+        *or |= next[i];
     }
+}
+
+/// Whether two pairs of masks are of one length.
+#[tactic(auto, using(laws::proofs::Chain::tests), unfolding(definition::specs::Joined::joinable))]
+fn are_joinable(ors: &[u8], ands: &[u8], next_ors: &[u8], next_ands: &[u8]) -> bool
+    ensures { result ≡ joinable (pair ors.now ands.now) (pair next_ors.now next_ands.now) }
+{
+    let size = ors.len();
+    ands.len() == size && next_ors.len() == size && next_ands.len() == size
 }
 
 /// Joins the masks of a masked write with those of the next one to the same target, in the place of the first pair:
@@ -89,19 +86,12 @@ pub fn join_masks(ors: &mut [u8], ands: &mut [u8], next_ors: &[u8], next_ands: &
     ensures { let first = pair ors.old ands.old in let next = pair next_ors.now next_ands.now in
         (result ≡ joinable first next) × (pair ors.new ands.new ≡ joined_to first next) }
 {
-    let size = ors.len();
-    if ands.len() != size {
-        return false;
-    }
-    if next_ors.len() != size {
-        return false;
-    }
-    if next_ands.len() != size {
+    if !are_joinable(ors, ands, next_ors, next_ands) {
         return false;
     }
     // the AND masks are written to by the next pair as tag memory is
-    apply_masks(ands, 0, next_ors, next_ands);
-    add_ors(ors, 0, next_ors);
+    apply_masks(ands, next_ors, next_ands);
+    add_ors(ors, next_ors);
     true
 }
 
@@ -114,6 +104,7 @@ pub fn join_at(request: &mut [u8], at: usize, next_ors: &[u8], next_ands: &[u8])
         request.new ≡ put request.old at (masks.ors ++ masks.ands) }
 {
     let ands = at + next_ors.len();
-    add_ors(request, at, next_ors);
-    apply_masks(request, ands, next_ors, next_ands);
+    let end = ands + next_ors.len();
+    add_ors(&mut request[at..ands], next_ors);
+    apply_masks(&mut request[ands..end], next_ors, next_ands);
 }

@@ -1,3 +1,4 @@
+-- Each call looks at a later segment, so fewer are left.
 use Rattle.path.specs.Paths.{segments_left}
 use Rattle.path.proofs.+is_tag_path.Given as goal
 

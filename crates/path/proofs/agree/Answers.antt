@@ -1,13 +1,13 @@
--- Each byte before i agrees, so the test of the rest is the test of all.
-use Rattle.laws.proofs.Zip.{agrees}
-use borrow.Author.Rules.{rules}
+-- `all` asks `same_byte` of each pair of bytes, so its answer is the definition's (`Agreeing.antt`).
+use Rattle.std.proofs.Common.{rules, tests, ◌≡◌, true, false, ℕ}
+use Rattle.std.proofs.lemmas.Iterator.{YieldsList-from_slice, YieldsList-from_zip, cases_from_all}
+use Rattle.definition.specs.Names.{same_byte}
+use Rattle.path.proofs.Agreeing.{agree_by}
 use Rattle.path.proofs.agree.Goals as goal
 
-pub loop-i-preserved : goal.loop-i-preserved
-loop-i-preserved c = (search rules, search rules, search agrees)
-
-pub returns-else-same_byte : goal.returns-else-same_byte
-returns-else-same_byte c = search agrees
-
 pub returns : goal.returns
-returns c = search agrees
+returns c =
+    agree_by same_byte _ _ _ c.requires
+    (cases_from_all c.all.new.self _ _ (λ (q : ℕ × ℕ). same_byte q.0 q.1 ≡ true) (λ (q : ℕ × ℕ). same_byte q.0 q.1 ≡ false) c.all.ensures.ran
+    (YieldsList-from_zip (YieldsList-from_slice c.args.a.now cc) (YieldsList-from_slice c.args.b.now cc)) (λ x q k. search (rules, tests))
+    (λ x q k. search (rules, tests)))

@@ -1,25 +1,36 @@
--- The tests of form and length in the statement's order; each arm reads only bytes that stand in the path, and the reserved format none.
-use mathlib.Core.Path.{◌∙◌}
-use Rattle.laws.proofs.Chain.{chain}
+-- By the format and whether its bytes stand in the path, as in the definition; the reserved format has no value.
+use native.Mathlib.Omega.{arith}
+use lib.ListN.{length}
+use Prim.Native.Nat.{◌+◌}
+use borrow.Author.Tests.{le-leb, lt-leb}
+use Rattle.definition.specs.Segment.{logical_at}
 use Rattle.path.proofs.value_at.Goals as goal
 
-pub returns-then-at-path : goal.returns-then-at-path
-returns-then-at-path c = search chain
+pub returns-in-Bits8 : goal.returns-in-Bits8
+unfolding logical_at
+returns-in-Bits8 c make = rw (c.in-Bits8.is, c.from.ensures, le-leb (c.args.at + 1) (length c.args.path.now) (omega arith))
 
-pub returns-then-form-eq-BITS_8 : goal.returns-then-form-eq-BITS_8
-returns-then-form-eq-BITS_8 c = search chain
+pub returns-in-PadAnd16 : goal.returns-in-PadAnd16
+unfolding logical_at
+returns-in-PadAnd16 c make =
+    rw (c.in-PadAnd16.is, c.from-in-PadAnd16.ensures, c.u16_at.ensures, le-leb (c.args.at + 3) (length c.args.path.now) (omega arith))
 
-pub returns-then-at-path-2 : goal.returns-then-at-path-2
-returns-then-at-path-2 c = let e = c.word16.ensures ∙ c.u16_at.ensures in search chain
+pub returns-in-PadAnd32 : goal.returns-in-PadAnd32
+unfolding logical_at
+returns-in-PadAnd32 c make = rw (c.in-PadAnd32.is, c.u32_at.ensures, le-leb (c.args.at + 5) (length c.args.path.now) (omega arith))
 
-pub returns-then-form-eq-PAD_AND_16 : goal.returns-then-form-eq-PAD_AND_16
-returns-then-form-eq-PAD_AND_16 c = search chain
+pub returns-in_default : goal.returns-in_default
+unfolding logical_at
+returns-in_default c make = rw (c.in-Bits8.is, lt-leb (c.args.at + 1) (length c.args.path.now) (omega arith))
 
-pub returns-then-at-path-3 : goal.returns-then-at-path-3
-returns-then-at-path-3 c = search chain
+pub returns-in_default-2 : goal.returns-in_default-2
+unfolding logical_at
+returns-in_default-2 c make = rw (c.in-PadAnd16.is, lt-leb (c.args.at + 3) (length c.args.path.now) (omega arith))
 
-pub returns-then-form-eq-PAD_AND_32 : goal.returns-then-form-eq-PAD_AND_32
-returns-then-form-eq-PAD_AND_32 c = search chain
+pub returns-in_default-3 : goal.returns-in_default-3
+unfolding logical_at
+returns-in_default-3 c make = rw (c.in-PadAnd32.is, lt-leb (c.args.at + 5) (length c.args.path.now) (omega arith))
 
-pub returns : goal.returns
-returns c = search chain
+pub returns-in_default-4 : goal.returns-in_default-4
+unfolding logical_at
+returns-in_default-4 c make = rw c.in_default.is

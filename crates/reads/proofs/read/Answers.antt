@@ -6,14 +6,14 @@ use Rattle.reads.proofs.read.Goals as goal
 pub send_selected-requires : goal.send_selected-requires
 send_selected-requires c = (
   c.requires.0,
-  granted-few c.args.g.bit c.args.g.count _ _ c.requires.0.some_elements c.ask_of.ensures c.in-Granted.is,
+  granted-few c.args.g.bit c.args.g.count _ _ c.requires.0.some_elements c.ask_of.ensures c.in-Ok.is,
   omega arith,
 )
 
-pub returns-in-Granted : goal.returns-in-Granted
-returns-in-Granted c =
-    read_granted _ _ _ _ _ _ _ _ _ _ _ c.ask_of.ensures c.in-Granted.is
+pub returns-in-Ok : goal.returns-in-Ok
+returns-in-Ok c =
+    read_granted _ _ _ _ _ _ _ _ _ _ _ c.ask_of.ensures c.in-Ok.is
     c.send_selected.ensures
 
-pub returns-in-Refused : goal.returns-in-Refused
-returns-in-Refused c = read_refused _ _ _ _ _ _ _ _ _ _ _ c.ask_of.ensures _ c.in-Refused.is c.fail.ensures
+pub returns-in-Err : goal.returns-in-Err
+returns-in-Err c = read_refused _ _ _ _ _ _ _ _ _ _ _ c.ask_of.ensures _ c.in-Err.is c.fail.ensures

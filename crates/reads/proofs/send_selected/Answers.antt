@@ -13,9 +13,7 @@ returns-then-g-ne-NO_BIT c = bit_sent _ _ _ _ _ _ _ _ _ _ _ c.if-g-ne-NO_BIT.tru
 pub overflow_mul-size : goal.overflow_mul-size
 overflow_mul-size c = omega (arith, aimed_inside _ _ _ c.requires.0 _ c.requires.1, c.requires.0.small_memory)
 
-pub send_from-requires-2 : goal.send_from-requires-2
-send_from-requires-2 c = (aimed_inside _ _ _ c.requires.0 _ c.requires.1, omega arith)
-
 pub returns : goal.returns
 returns c =
-    part_sent _ _ _ _ _ _ _ _ _ _ _ c.if-g-ne-NO_BIT.false c.requires.0.size_is c.send_from-2.ensures
+    part_sent _ _ _ _ _ _ _ _ _ _ _ c.if-g-ne-NO_BIT.false c.requires.0.size_is
+    (rw c.chunk-value.ensures at c.send_from-2.ensures)

@@ -1,7 +1,6 @@
--- A record in the place of another is its row in the place of the other's.
-use Rattle.std.proofs.Common.{rules}
+-- The records are the slice's; their rows follow, since one record set is its row set.
 use Rattle.records.proofs.Lists.{rows-set}
 use Rattle.records.proofs.set_tag.Goals as goal
 
-pub returns : goal.returns
-returns c = (search rules, rows-set c.args.tags.now c.args.i c.args.tag)
+pub returns-clause-rows : goal.returns-clause-rows
+returns-clause-rows c = rows-set _ _ _

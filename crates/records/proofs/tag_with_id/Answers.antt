@@ -1,20 +1,17 @@
--- No record before i passes the test, so the search of the rest is the search of all.
+-- The first record that passes has the place of the first row that does, and the record there is the one that the row means.
+use mathlib.Core.Path.{ap, ◌∙◌}
+use Rattle.std.proofs.Common.{rules, tests}
+use Rattle.std.proofs.lemmas.Iterator.{YieldsList-from_slice}
+use Rattle.std.proofs.lemmas.Iterator.Search.{position_from_yields_List}
+use Rattle.laws.proofs.Chains.{position_is}
 use Rattle.definition.specs.Lookup.{id_in}
-use Rattle.records.proofs.Lists.{tag_read}
-use Rattle.records.proofs.Looking.{seek_next, seek_found, seek_none}
+use Rattle.model.specs.Rows.{id_is}
+use Rattle.records.specs.Records.{row_of, lookup_of}
+use Rattle.records.proofs.Looking.{located}
 use Rattle.records.proofs.tag_with_id.Goals as goal
-
-pub returns-then-has_id : goal.returns-then-has_id
-unfolding id_in
-returns-then-has_id c =
-    seek_found _ c.args.tags.now c.loop-i.i c.loop-i.invariant c.loop-i-test.true _ (tag_read _ _ c.loop-i-test.true) _
-    c.has_id.ensures _ c.if-has_id.true c.found_at.ensures
-
-pub loop-i-preserved : goal.loop-i-preserved
-loop-i-preserved c =
-    seek_next _ c.args.tags.now c.loop-i.i c.loop-i.invariant c.loop-i-test.true _ (tag_read _ _ c.loop-i-test.true) _
-    c.has_id.ensures c.if-has_id.false
 
 pub returns : goal.returns
 unfolding id_in
-returns c = seek_none _ c.args.tags.now c.loop-i.i c.loop-i.invariant c.loop-i-test.false _ c.nothing.ensures
+returns c =
+    c.record_at.ensures ∙ ap (lookup_of c.args.tags.now) (located (id_is c.args.scope c.args.id) c.args.tags.now _ (position_is _ _ _
+    (position_from_yields_List (λ t. id_is c.args.scope c.args.id (row_of t)) _ _ _ c.position-at.ensures.ran (YieldsList-from_slice c.args.tags.now cc) (λ x b q k. search (rules, tests)))))

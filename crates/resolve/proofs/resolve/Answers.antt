@@ -1,38 +1,33 @@
 -- The tag found is a row, whose whole stands in its tag; the walk from there is the definition's, whatever the other tables are.
-use Prim.Native.Nat.{◌<◌}
-use lib.ListN.{length}
-use Rattle.model.specs.Tables.{flags_of}
-use Rattle.resolve.proofs.Answering.{tabled_programs, tabled_elements, tabled_standing, resolve-tag, resolve_rest, resolves}
-use borrow.Author.Rules.{rules}
+use Rattle.std.proofs.lemmas.Result.{err_from_is_err_and}
+use Rattle.model.specs.Tables.{tables_of, flags_of}
+use Rattle.resolve.proofs.Answering.{tabled_programs, tabled_elements, tabled_standing, resolve-turned, resolve-away, resolve_found}
 use Rattle.resolve.proofs.resolve.Goals as goal
 
 pub tag_of-requires : goal.tag_of-requires
-tag_of-requires c = (c.requires.0, tabled_programs _ _ _ _ _ _ c.requires.1)
+tag_of-requires c = (c.requires.0, tabled_programs (tables_of c.args.c.now.tables) c.requires.1)
 
-pub offset_bounds-tags-i : goal.offset_bounds-tags-i
-offset_bounds-tags-i c =
-    let h : c.in-At.i < length c.args.tags.now = search resolve-tag in
-    search rules
+pub returns-in_err-start : goal.returns-in_err-start
+returns-in_err-start c =
+    let p = err_from_is_err_and c.from_residual.result c.from_residual.ensures.1 in
+    rw (p.1, p.2) (resolve-turned _ _ _ _ c.in_err-start.ensures)
 
-pub bounds-tags-i : goal.bounds-tags-i
-bounds-tags-i c =
-    let h : c.in-At.i < length c.args.tags.now = search resolve-tag in
-    search rules
+pub of_tag-whole-requires : goal.of_tag-whole-requires
+of_tag-whole-requires c = tabled_elements (tables_of c.args.c.now.tables) c.requires.1 _ c.in_ok-start.ensures.inside.0
 
-pub whole_tag-first-requires : goal.whole_tag-first-requires
-whole_tag-first-requires c =
-    let h : c.in-At.i < length c.args.tags.now = search resolve-tag in
-    tabled_elements _ _ _ _ _ _ c.requires.1 _ h
+pub follow-requires : goal.follow-requires
+follow-requires c = (
+  c.in_ok-start.ensures.inside.1,
+  tabled_standing _ c.requires.1 _ c.in_ok-start.ensures.inside.0 (flags_of c.args.c.now.flags) c.of_tag-whole.result c.of_tag-whole.ensures,
+)
 
-pub follow-moved-requires : goal.follow-moved-requires
-follow-moved-requires c =
-    let h : c.in-At.i < length c.args.tags.now = search resolve-tag in (
-      search resolve_rest,
-      tabled_standing _ _ _ _ _ _ c.requires.1 _ h (flags_of c.args.flags) c.whole_tag-first.result c.whole_tag-first.ensures,
-    )
+pub returns-in_err-place : goal.returns-in_err-place
+returns-in_err-place c =
+    let p = err_from_is_err_and c.from_residual-in_err-place.result c.from_residual-in_err-place.ensures.1 in
+    rw (p.1, p.2)
+    (resolve-away _ _ _ _ c.in_ok-start.ensures c.of_tag-whole.result c.of_tag-whole.ensures c.follow.result c.follow.ensures _ c.in_err-place.was)
 
-pub returns-in-At : goal.returns-in-At
-returns-in-At c = search resolves
-
-pub returns-in-Turned : goal.returns-in-Turned
-returns-in-Turned c = search resolves
+pub returns : goal.returns
+returns c =
+    resolve_found _ _ _ _ c.in_ok-start.ensures c.of_tag-whole.result c.of_tag-whole.ensures c.follow.result c.follow.ensures c.in_ok-place.place
+    c.target.result c.in_ok-place.was c.target.ensures

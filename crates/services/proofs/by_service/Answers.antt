@@ -6,11 +6,11 @@ use Rattle.model.proofs.Lent.{some-valid}
 use Rattle.services.proofs.by_service.Goals as goal
 
 pub list_symbols-requires : goal.list_symbols-requires
-list_symbols-requires c = (c.requires.0, some-valid _ _ _ c.requires.2 refl, c.requires.3)
+list_symbols-requires c = (c.requires.decodes, some-valid _ _ _ c.requires.judged refl, c.requires.room)
 
-pub returns-then-service-eq-SYMBOL_PAGE : goal.returns-then-service-eq-SYMBOL_PAGE
-returns-then-service-eq-SYMBOL_PAGE c =
-    by_page _ _ _ _ _ _ _ _ _ _ c.if-service-eq-SYMBOL_PAGE.true c.requires.2 c.list_symbols.ensures
+pub returns-then-q-eq-SYMBOL_PAGE : goal.returns-then-q-eq-SYMBOL_PAGE
+returns-then-q-eq-SYMBOL_PAGE c =
+    by_page _ _ _ _ _ _ _ _ _ _ c.if-q-eq-SYMBOL_PAGE.true c.requires.judged c.list_symbols.ensures.is
 
 pub returns-then-is_tag_request : goal.returns-then-is_tag_request
 returns-then-is_tag_request c =
@@ -20,4 +20,4 @@ returns-then-is_tag_request c =
 pub returns : goal.returns
 returns c =
     by_other _ _ _ _ _ _ _ _ _ _ (search rules) _ c.is_tag_request.ensures c.if-is_tag_request.false c.args.o
-    c.requires.1 c.refuse_other.ensures
+    c.requires.object c.refuse_other.ensures

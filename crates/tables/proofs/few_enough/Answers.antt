@@ -1,32 +1,16 @@
--- The counts in the definition's order.
-use Rattle.laws.proofs.Chain.{chain}
-use Rattle.rows.specs.Judged.{counts7}
+-- Each table has at most as many rows as it may have, in the definition's order.
+use Rattle.std.specs.Prelude.{leb}
+use Rattle.std.proofs.Common.{rules, tests, length, ◌∙◌}
+use Rattle.rows.proofs.AllRows.{all_rows}
+use Rattle.model.specs.Tables.{tables_of}
+use Rattle.tables.specs.Rules.{count_in, limit_of}
+use Rattle.tables.specs.declared.rules.Table.{Table}
+use Rattle.tables.specs.declared.TheConstants.{TABLES}
+use Rattle.tables.proofs.Facts.{few}
 use Rattle.tables.proofs.few_enough.Goals as goal
 
-pub returns-then-structures-gt64 : goal.returns-then-structures-gt64
-unfolding counts7
-returns-then-structures-gt64 c = search chain depth 10
-
-pub returns-then-members-gt512 : goal.returns-then-members-gt512
-unfolding counts7
-returns-then-members-gt512 c = search chain depth 10
-
-pub returns-then-programs-gt16 : goal.returns-then-programs-gt16
-unfolding counts7
-returns-then-programs-gt16 c = search chain depth 10
-
-pub returns-then-tags-gt1024 : goal.returns-then-tags-gt1024
-unfolding counts7
-returns-then-tags-gt1024 c = search chain depth 10
-
-pub returns-then-others-gt64 : goal.returns-then-others-gt64
-unfolding counts7
-returns-then-others-gt64 c = search chain depth 10
-
-pub returns-then-memory-gt65536 : goal.returns-then-memory-gt65536
-unfolding counts7
-returns-then-memory-gt65536 c = search chain depth 10
-
 pub returns : goal.returns
-unfolding counts7
-returns c = search chain depth 10
+returns c =
+    let p = λ (x : Table). leb (count_in x (tables_of c.args.t.now) (length c.args.memory.now)) (limit_of x) in
+    all_rows p TABLES _ c.all.ensures.ran (cc) (λ x b q k. search (rules, tests))
+    ∙ few (tables_of c.args.t.now) (length c.args.memory.now)

@@ -1,13 +1,11 @@
--- Each row before i passes, so the test of the rest is the test of all.
-use Rattle.laws.proofs.Loops.{everys}
-use borrow.Author.Rules.{rules}
+-- The chain answers as the library's law of it says, which is the definition's.
+use Rattle.std.proofs.Common.{rules, tests, length}
+use Rattle.rows.proofs.AllRows.{all_rows}
+use Rattle.rows.specs.Judged.{member_judged}
 use Rattle.tables.proofs.members_judged.Goals as goal
 
-pub loop-i-preserved : goal.loop-i-preserved
-loop-i-preserved c = (search rules, search everys)
-
-pub returns-else-member_judged : goal.returns-else-member_judged
-returns-else-member_judged c = search everys
-
 pub returns : goal.returns
-returns c = search everys
+returns c =
+    let t = c.args.t.now in
+    all_rows (member_judged t.names.now (length t.structures.now)) t.members.now
+    _ c.all.ensures.ran (cc) (λ x b q k. search (rules, tests))

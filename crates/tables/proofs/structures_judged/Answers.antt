@@ -1,13 +1,16 @@
--- Each row before i passes with its index, so the test of the rest is the test of all.
-use Rattle.laws.proofs.Loops.{froms}
-use borrow.Author.Rules.{rules}
+-- The chain answers as the library's law of it says, which is the definition's.
+use Rattle.std.proofs.Common.{rules, tests, length}
+use Rattle.std.proofs.lemmas.Iterator.{YieldsList-from_slice}
+use Rattle.std.proofs.lemmas.Iterator.Consumers.{YieldsList-from_enumerate}
+use Rattle.std.proofs.lemmas.Iterator.Search.{all_from_yields_List}
+use Rattle.laws.proofs.Chains.{all_is}
+use Rattle.rows.specs.Judged.{structure_judged}
+use Rattle.tables.proofs.Facts.{every_counted}
 use Rattle.tables.proofs.structures_judged.Goals as goal
 
-pub loop-i-preserved : goal.loop-i-preserved
-loop-i-preserved c = (search rules, search froms)
-
-pub returns-else-structure_judged : goal.returns-else-structure_judged
-returns-else-structure_judged c = search froms
-
 pub returns : goal.returns
-returns c = search froms
+returns c =
+    let t = c.args.t.now in
+    every_counted (structure_judged t.structures.now t.members.now t.names.now (length t.templates.now)) _ _ (all_is _ _ _
+    (all_from_yields_List _ _ _ _ c.all.ensures.ran (YieldsList-from_enumerate (YieldsList-from_slice t.structures.now cc) cc)
+    (λ x b q k. search (rules, tests))))

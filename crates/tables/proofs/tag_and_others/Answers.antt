@@ -1,13 +1,11 @@
--- Each other symbol before j passes, so the test of the rest is the test of all.
-use Rattle.laws.proofs.Loops.{everys}
-use borrow.Author.Rules.{rules}
+-- The chain answers as the library's law of it says, which is the definition's.
+use Rattle.std.proofs.Common.{rules, tests}
+use Rattle.rows.proofs.AllRows.{all_rows}
+use Rattle.rows.specs.Judged.{tag_other}
 use Rattle.tables.proofs.tag_and_others.Goals as goal
 
-pub loop-j-preserved : goal.loop-j-preserved
-loop-j-preserved c = (search rules, search everys)
-
-pub returns-else-tag_other : goal.returns-else-tag_other
-returns-else-tag_other c = search everys
-
 pub returns : goal.returns
-returns c = search everys
+returns c =
+    let t = c.args.t.now in
+    all_rows (tag_other t.tag_names.now t.names.now c.args.tag.now) t.others.now
+    _ c.all.ensures.ran (cc) (λ x b q k. search (rules, tests))

@@ -1,13 +1,12 @@
--- Each tag before i passes, so the test of the rest is the test of all.
-use Rattle.laws.proofs.Loops.{everys}
-use borrow.Author.Rules.{rules}
+-- The chain answers as the library's law of it says, which is the definition's.
+use Rattle.std.proofs.Common.{rules, tests}
+use Rattle.rows.proofs.AllRows.{all_rows}
+use Rattle.rows.specs.Judged.{tag_other}
+use Rattle.laws.specs.Tests.{every}
 use Rattle.tables.proofs.tags_and_others.Goals as goal
 
-pub loop-i-preserved : goal.loop-i-preserved
-loop-i-preserved c = (search rules, search everys)
-
-pub returns-else-tag_and_others : goal.returns-else-tag_and_others
-returns-else-tag_and_others c = search everys
-
 pub returns : goal.returns
-returns c = search everys
+returns c =
+    let t = c.args.t.now in
+    all_rows (λ r. every (tag_other t.tag_names.now t.names.now r) t.others.now) t.tags.now
+    _ c.all.ensures.ran (cc) (λ x b q k. search (rules, tests))

@@ -1,6 +1,7 @@
 -- A masked write's masks begin somewhere.
+use mathlib.Core.Path.{◌∙◌}
 use Rattle.input.proofs.Joining.{is_it}
 use Rattle.input.proofs.clicks.is_masked_write.Goals as goal
 
 pub returns : goal.returns
-returns c = is_it c.args.s.now _ c.masks_at.ensures.0
+returns c = c.is_some.ensures ∙ is_it c.args.s.now _ c.masks_at.ensures.found

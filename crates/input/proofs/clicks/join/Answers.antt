@@ -1,36 +1,25 @@
 -- Two requests that are as long and have the same bytes before the masks are joined where the masks stand, which are two halves of the rest.
-use mathlib.Core.Path.{refl, sym}
+use mathlib.Core.Path.{refl}
 use native.Mathlib.Omega.{arith}
-use lib.Seq.{length-take-le}
 use Rattle.input.proofs.Joining.{not-joined, no_row, no_length, no_front, halves, row-joined}
 use Rattle.input.proofs.clicks.join.Goals as goal
 
-pub returns-then-at-eq0 : goal.returns-then-at-eq0
-returns-then-at-eq0 c =
-    not-joined c.args.row.now c.args.next.now
-    (no_row c.args.row.now c.args.next.now _ c.masks_at-at.ensures.0 c.if-at-eq0.true)
+pub returns-in_default : goal.returns-in_default
+returns-in_default c = not-joined c.args.row.now c.args.next.now (no_row _ _ c.in_default.ensures.found)
 
 pub returns-then-next-row : goal.returns-then-next-row
-returns-then-next-row c =
-    not-joined c.args.row.now c.args.next.now (no_length c.args.row.now c.args.next.now _
-    c.masks_at-at.ensures.0 c.if-at-eq0.false c.if-next-row.true)
+returns-then-next-row c = not-joined c.args.row.now c.args.next.now (no_length _ _ _ c.in-Some.ensures.found c.if-next-row.true)
 
-pub slice_bounds-same-end-2 : goal.slice_bounds-same-end-2
-slice_bounds-same-end-2 c = sym (length-take-le _ _ c.masks_at-at.ensures.1)
-
-pub slice_bounds-same-end-3 : goal.slice_bounds-same-end-3
-slice_bounds-same-end-3 c = sym (length-take-le _ _ (omega (arith, c.masks_at-at.ensures.1, c.if-next-row.false)))
-
-pub returns-then-not-same : goal.returns-then-not-same
-returns-then-not-same c =
-    not-joined c.args.row.now c.args.next.now (no_front c.args.row.now c.args.next.now _ c.masks_at-at.ensures.0
-    c.if-at-eq0.false c.if-next-row.false _ c.same.ensures c.if-not-same.true)
+pub returns-then-ne : goal.returns-then-ne
+returns-then-ne c =
+    not-joined c.args.row.now c.args.next.now (no_front _ _ _ c.in-Some.ensures.found c.if-next-row.false _ c.ne.ensures c.if-ne.true)
 
 pub join_at-requires : goal.join_at-requires
 join_at-requires c =
-    halves c.args.row.now c.args.next.now _ c.masks_at-at.ensures.0 c.if-at-eq0.false c.if-next-row.false _ c.same.ensures _ refl
+    let both = halves c.args.row.now c.args.next.now _ c.in-Some.ensures.found c.if-next-row.false _ refl in
+    (omega arith, omega arith)
 
 pub returns : goal.returns
 returns c =
-    row-joined c.args.row.now c.args.next.now _ c.masks_at-at.ensures.0 c.if-at-eq0.false c.if-next-row.false _ c.same.ensures _
-    refl _ c.if-not-same.false c.join_at.ensures
+    row-joined c.args.row.now c.args.next.now _ c.in-Some.ensures.found c.if-next-row.false _ refl _ _ c.ne.ensures c.if-ne.false
+    c.join_at.ensures

@@ -1,21 +1,17 @@
--- Each character before i is a decimal digit.
-use Rattle.laws.proofs.Loops.{everys, every_stop, every_end}
-use Rattle.laws.proofs.Chain.{both_yes, both_no}
-use mathlib.Core.Path.{sym, refl}
-use Rattle.input.specs.Lines.{is_decimal, is_number}
-use borrow.Author.Rules.{rules}
+-- `all` asks each character whether it is a decimal digit.
+use Rattle.std.proofs.Common.{rules, tests}
+use Rattle.std.proofs.lemmas.Iterator.{YieldsList-from_slice}
+use Rattle.std.proofs.lemmas.Iterator.Search.{all_from_yields_List}
+use Rattle.laws.proofs.Chains.{all_is}
+use Rattle.input.specs.Lines.{is_decimal}
+use Rattle.input.proofs.Digits.{decimal_digit, number_if, no_digits}
 use Rattle.input.proofs.hex.is_number.Goals as goal
 
-pub returns-then-not-is_decimal : goal.returns-then-not-is_decimal
-unfolding is_number
-returns-then-not-is_decimal c =
-    both_no _ _ (sym (every_stop is_decimal 0 _ _ c.loop-i.invariant.1 (search rules) c.is_decimal.ensures
-    c.if-not-is_decimal.true))
+pub returns-then-not-is_empty : goal.returns-then-not-is_empty
+returns-then-not-is_empty c =
+    number_if c.args.word.now _ c.if-not-is_empty.ensures
+    (all_is is_decimal c.args.word.now _
+    (all_from_yields_List is_decimal _ _ _ c.all.ensures.ran (YieldsList-from_slice c.args.word.now cc) (λ x b q k. search (rules, tests, decimal_digit))))
 
-pub loop-i-preserved : goal.loop-i-preserved
-loop-i-preserved c = (search rules, search (rules, everys))
-
-pub returns : goal.returns
-unfolding is_number
-returns c =
-    both_yes _ _ _ (sym (every_end is_decimal 0 c.loop-i.i c.args.word.now c.loop-i.invariant.1 (search rules))) refl
+pub returns-else-not-is_empty : goal.returns-else-not-is_empty
+returns-else-not-is_empty c = no_digits _ _ c.if-not-is_empty.false c.is_empty.ensures

@@ -1,11 +1,14 @@
 -- The part before the first `#` is the line without its comment.
-use mathlib.Core.Path.{sym}
-use lib.Seq.{length-take-le}
-use Rattle.input.proofs.Parsing.{reads_as, without_comment}
+use mathlib.Core.Path.{◌∙◌}
+use Prim.Native.Nat.{ℕ}
+use lib.Dec.{eqb}
+use Rattle.input.proofs.Text.{place_or_end}
+use Rattle.input.proofs.Parsing.{without_comment, request-fits}
 use Rattle.input.proofs.hex.parse.Goals as goal
 
-pub slice_bounds-asked-end : goal.slice_bounds-asked-end
-slice_bounds-asked-end c = sym (length-take-le _ _ c.find-end.ensures.1)
+pub returns-clause-reads : goal.returns-clause-reads
+returns-clause-reads c =
+    without_comment _ _ _ _ _ (c.unwrap_or-end.ensures ∙ place_or_end (λ (x : ℕ). eqb x 0x23) c.args.line.now _ c.find.ensures.found) c.asked.ensures
 
-pub returns : goal.returns
-returns c = reads_as (without_comment _ _ _ c.find-end.ensures.2) c.asked.ensures
+pub returns-clause-fits : goal.returns-clause-fits
+returns-clause-fits c = request-fits _ _ _ _ c.asked.ensures

@@ -4,12 +4,6 @@ use Rattle.laws.proofs.Chain.{chain}
 use borrow.Author.Rules.{rules}
 use Rattle.input.proofs.lines.ended.Goals as goal
 
-pub returns-then-n-gt0 : goal.returns-then-n-gt0
-returns-then-n-gt0 c = search (rules, chain)
-
-pub returns-then-at-eq0 : goal.returns-then-at-eq0
-returns-then-at-eq0 c = search (rules, chain)
-
 pub returns : goal.returns
 returns c =
     let stored = set-put c.args.input.now c.args.at 10 (search rules) in

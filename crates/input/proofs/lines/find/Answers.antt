@@ -1,20 +1,15 @@
--- No character from the start up to i is the one that is looked for.
-use borrow.Author.Tests.{eq-eqb, ne_eqb}
-use Rattle.input.proofs.Text.{stretch_next, stretch_found, stretch_end}
-use mathlib.Core.Path.{refl}
-use borrow.Author.Rules.{rules}
+-- The chain answers as the library's law of it says, which is the definition's.
+use Rattle.std.proofs.Common.{rules, tests}
+use Rattle.std.proofs.lemmas.Iterator.{YieldsList-from_slice}
+use Rattle.std.proofs.lemmas.Iterator.Search.{position_from_yields_List}
+use Prim.Native.Nat.{ℕ}
+use lib.Dec.{eqb}
+use Rattle.laws.proofs.Chains.{position_is}
+use Rattle.input.proofs.Text.{place_is}
 use Rattle.input.proofs.lines.find.Goals as goal
 
-pub returns-then-input-i : goal.returns-then-input-i
-returns-then-input-i c =
-    (search rules, search rules, stretch_found _ _ _ _ c.loop-i.invariant.2 (search rules) refl (eq-eqb _ _ c.if-input-i.true))
-
-pub loop-i-preserved : goal.loop-i-preserved
-loop-i-preserved c = (
-  search rules,
-  search rules,
-  stretch_next _ _ _ _ c.loop-i.invariant.2 (search rules) refl (ne_eqb _ _ c.if-input-i.false) refl,
-)
-
-pub returns : goal.returns
-returns c = (search rules, search rules, stretch_end _ _ _ _ c.loop-i.invariant.2 (search rules))
+pub returns-clause-found : goal.returns-clause-found
+returns-clause-found c =
+    place_is (λ (x : ℕ). eqb x c.args.c) c.args.text.now _ (position_is _ _ _
+    (position_from_yields_List (λ (x : ℕ). eqb x c.args.c) _ _ _ c.position.ensures.ran (YieldsList-from_slice c.args.text.now cc)
+    (λ x b q k. search (rules, tests))))

@@ -1,39 +1,28 @@
 -- The definition's refusals in its order: the start, the list, its numbers; what is left is the page.
-use Rattle.listing.proofs.Starts.{lists_unknown, lists_missing, lists_page, lists_refused, page_valid, few-programs}
-use Rattle.std.proofs.Common.{sym, ◌∙◌, arith, rules}
-use Rattle.listing.proofs.Lists.{count_fits}
+use Rattle.model.specs.Tables.{tables_of}
+use Rattle.listing.specs.Numbers.{numbers_in}
+use Rattle.listing.proofs.Starts.{lists-unknown, lists-missing, lists-refused, lists_page, page_valid, few-programs}
 use Rattle.listing.proofs.requests.list_symbols.Goals as goal
 
 pub page_start-requires : goal.page_start-requires
-page_start-requires c = (search rules, few-programs _ _ _ _ _ _ c.requires.1)
+page_start-requires c = (c.requires.0, few-programs (tables_of c.args.t.now) c.requires.1)
 
 pub returns-in_default : goal.returns-in_default
-returns-in_default c =
-    lists_unknown _ _ _ _ _ _ _ _ _ _ _ _ _ _ c.page_start.ensures c.in_default.is c.fail.ensures
+returns-in_default c = lists-unknown (tables_of c.args.t.now) c.args.q _ _ _ _ c.in_default.ensures c.fail.ensures
 
-pub returns-in_default-count_of : goal.returns-in_default-count_of
-returns-in_default-count_of c =
-    lists_missing _ _ _ _ _ _ _ _ _ _ _ _ _ _ c.page_start.ensures _ _ c.in-From.is _ c.count_of.ensures
-    c.in_default-count_of.is c.fail-in_default-count_of.ensures
+pub returns-in_default-read : goal.returns-in_default-read
+returns-in_default-read c =
+    lists-missing (tables_of c.args.t.now) c.args.q _ _ _ _ _ c.in-Some.ensures c.in_default-read.ensures c.fail-in_default-read.ensures
 
-pub all_listed-requires : goal.all_listed-requires
-all_listed-requires c =
-    omega (arith, c.wide16-n.ensures, count_fits c.args.body.now _ (sym c.in-Of.is ∙ c.count_of.ensures))
+pub returns-then-not-all_listed : goal.returns-then-not-all_listed
+returns-then-not-all_listed c =
+    lists-refused (tables_of c.args.t.now) c.args.q _ _ _ _ _ c.in-Some.ensures _ c.in-Some-read.ensures c.if-not-all_listed.ensures
+    c.fail-then-not-all_listed.ensures
 
-pub put_page-requires : goal.put_page-requires
-put_page-requires c = (
-  page_valid _ _ _ _ _ _ c.requires.1,
-  omega (arith, c.wide16-n.ensures, count_fits c.args.body.now _ (sym c.in-Of.is ∙ c.count_of.ensures)),
-  search rules,
-  search rules,
-)
-
-pub returns-then-all_listed : goal.returns-then-all_listed
-returns-then-all_listed c =
-    lists_page _ _ _ _ _ _ _ _ _ _ _ _ _ _ c.page_start.ensures _ _ c.in-From.is _ c.count_of.ensures _ _
-    c.in-Of.is c.wide16-n.ensures _ c.all_listed.ensures c.if-all_listed.true c.put_page.ensures
+pub put-requires : goal.put-requires
+put-requires c = (page_valid (tables_of c.args.t.now) c.requires.1, c.requires.2)
 
 pub returns : goal.returns
 returns c =
-    lists_refused _ _ _ _ _ _ _ _ _ _ _ _ _ _ c.page_start.ensures _ _ c.in-From.is _ c.count_of.ensures _ _
-    c.in-Of.is c.wide16-n.ensures _ c.all_listed.ensures c.if-all_listed.false c.fail-2.ensures
+    lists_page (tables_of c.args.t.now) c.args.q _ _ _ _ _ c.in-Some.ensures (numbers_in c.in-Some-read.numbers) c.in-Some-read.ensures
+    c.if-not-all_listed.ensures c.put.ensures

@@ -1,20 +1,16 @@
--- A cut to nothing is refused; else what is sent is the lesser of due and space, which fits, and the status says if it is all.
-use Rattle.std.proofs.Common.{leb, rules}
-use Rattle.listing.proofs.Laws.{sent_none, sent_part, part_fits, no_word}
+-- All that is due, nothing or as much as fits, by the tests of the statement.
+use Rattle.std.proofs.Common.{◌∙◌, sym}
+use Rattle.listing.proofs.Sent.{sent-all, sent-none, sent-some}
 use Rattle.listing.proofs.templates.send_part.Goals as goal
 
-pub returns-then-nothing_fits : goal.returns-then-nothing_fits
-returns-then-nothing_fits c =
-    sent_none _ _ _ _ _ _ _ _ _ c.space_of-space.ensures _ c.nothing_fits.ensures c.if-nothing_fits.true c.fail.ensures
+pub returns-then-due-space : goal.returns-then-due-space
+returns-then-due-space c = sent-all _ _ _ _ _ _ (rw c.space_of-space.ensures at c.if-due-space.true) c.send.ensures
 
-pub send-requires : goal.send-requires
-send-requires c = (
-  part_fits c.args.templates.now _ c.args.from _ _ _ _ c.space_of-space.ensures c.smaller-n.ensures c.chunk-bytes.ensures,
-  search rules,
-  no_word (leb c.args.due c.space_of-space.result) c.part_status.ensures,
-)
+pub returns-then-space-eq0 : goal.returns-then-space-eq0
+returns-then-space-eq0 c =
+    sent-none _ _ _ _ _ _ (rw c.space_of-space.ensures at c.if-due-space.false) (sym c.space_of-space.ensures ∙ c.if-space-eq0.true) c.fail.ensures
 
 pub returns : goal.returns
 returns c =
-    sent_part _ _ _ _ _ _ _ _ _ c.space_of-space.ensures _ _ _ _ c.nothing_fits.ensures c.if-nothing_fits.false c.smaller-n.ensures
-    c.part_status.ensures c.chunk-bytes.ensures c.send.ensures
+    sent-some _ _ _ _ _ _ (rw c.space_of-space.ensures at c.if-due-space.false) (λ e. c.if-space-eq0.false (c.space_of-space.ensures ∙ e))
+    (rw c.space_of-space.ensures at c.send-2.ensures)

@@ -8,4 +8,4 @@ returns-then-limit-used c = closed_late _ _ _ _ _ _ _ c.if-limit-used.true c.fai
 pub returns : goal.returns
 returns c =
     closed _ _ _ _ _ _ _ _ _ _ _ _ c.if-limit-used.false c.requires.0 c.requires.1 c.outcome.ensures c.put_header.ensures
-    c.low16_size.ensures c.put_u16.ensures c.finish.ensures.0 c.finish.ensures.1
+    c.low16.ensures c.put_u16.ensures c.finish.ensures.0 c.finish.ensures.1

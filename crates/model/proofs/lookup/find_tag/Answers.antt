@@ -1,15 +1,12 @@
--- No tag before i has that scope and name, so the search of the rest is the search of all.
+-- The chain answers as the library's law of it says, which is the definition's.
+use Rattle.std.proofs.Common.{rules, tests}
+use Rattle.std.proofs.lemmas.Iterator.{YieldsList-from_slice}
+use Rattle.std.proofs.lemmas.Iterator.Search.{position_from_yields_List}
+use Rattle.laws.proofs.Chains.{position_is}
 use Rattle.definition.specs.Lookup.{tag_in}
-use Rattle.model.proofs.Seeking.{seeks}
+use Rattle.model.specs.Rows.{tag_is}
 use Rattle.model.proofs.lookup.find_tag.Goals as goal
-
-pub returns-then-tag_is : goal.returns-then-tag_is
-unfolding tag_in
-returns-then-tag_is c = search seeks
-
-pub loop-i-preserved : goal.loop-i-preserved
-loop-i-preserved c = search seeks
 
 pub returns : goal.returns
 unfolding tag_in
-returns c = search seeks
+returns c = position_is _ _ _ (position_from_yields_List (tag_is c.args.tag_names.now c.args.scope c.args.name.now) _ _ _ c.position.ensures.ran (YieldsList-from_slice c.args.tags.now cc) (λ x b q k. search (rules, tests)))

@@ -1,16 +1,12 @@
--- No member before i is a local, so the test of the rest is the test of all.
-use Rattle.laws.proofs.Loops.{somes}
+-- The chain answers as the library's law of it says, which is the definition's.
+use Rattle.std.proofs.Common.{rules, tests}
+use Rattle.std.proofs.lemmas.Iterator.{YieldsList-from_slice}
+use Rattle.std.proofs.lemmas.Iterator.Search.{any_from_yields_List}
+use Rattle.laws.proofs.Chains.{any_is}
 use Rattle.definition.specs.Lookup.{local_in}
-use borrow.Author.Rules.{rules}
+use Rattle.model.specs.Rows.{is_local_row}
 use Rattle.model.proofs.lookup.has_local.Goals as goal
-
-pub returns-then-is_local : goal.returns-then-is_local
-unfolding local_in
-returns-then-is_local c = search somes
-
-pub loop-i-preserved : goal.loop-i-preserved
-loop-i-preserved c = (search rules, search somes)
 
 pub returns : goal.returns
 unfolding local_in
-returns c = search somes
+returns c = any_is _ _ _ (any_from_yields_List (is_local_row) _ _ _ c.any.ensures.ran (YieldsList-from_slice c.args.members.now cc) (λ x b q k. search (rules, tests)))

@@ -2,39 +2,42 @@
 use mathlib.Core.Path.{sym, ap, subst, ◌∙◌}
 use mathlib.Core.List.{List}
 use Prim.Native.Nat.{ℕ, ◌+◌, ◌<◌, ◌≤◌}
+use native.Mathlib.Omega.{arith}
 use lib.ListN.{length}
 use Rattle.std.proofs.Common.{Bor, rules}
-use Rattle.path.specs.Paths.{Decoded}
 use Rattle.path.proofs.Counts.{Counting, going_start, going_end, going_bad, going_next, going_less}
 use Rattle.path.proofs.reader.count_segments.Goals as goal
 
 pub loop-r-init : goal.loop-r-init
 loop-r-init c = (
-  ap (λ (y : Bor (List ℕ)). y.now) c.new-r.ensures.0,
-  subst (λ (n : ℕ). Counting c.args.path.now n 0) (sym c.new-r.ensures.1) (going_start c.args.path.now),
+  ap (λ (y : Bor (List ℕ)). y.now) c.new-r.ensures.path,
+  subst (λ (n : ℕ). Counting c.args.path.now n 0) (sym c.new-r.ensures.at) (going_start c.args.path.now),
 )
 
-pub returns-then-next-eq0 : goal.returns-then-next-eq0
-returns-then-next-eq0 c =
+pub returns-in_err-segment : goal.returns-in_err-segment
+returns-in_err-segment c =
     let same = c.loop-r.invariant.0 in
     let inside : c.loop-r.r.at < length c.args.path.now = rw (← same) (search rules) in
-    let d = subst (λ (p : List ℕ). Decoded p c.loop-r.r.at c.segment.result) same c.segment.ensures in
-    going_bad _ _ _ c.loop-r.invariant.1 _ _ d c.next_of-next.ensures inside c.if-next-eq0.true
+    rw c.from_residual.ensures (going_bad _ _ _ c.loop-r.invariant.1 inside (rw same at c.in_err-segment.ensures.stands.0))
+
+pub overflow_add-count : goal.overflow_add-count
+overflow_add-count c =
+    let same = c.loop-r.invariant.0 in
+    let inside : c.loop-r.r.at < length c.args.path.now = rw (← same) (search rules) in
+    let below : c.loop-r.count + 1 ≤ length c.args.path.now = omega (arith, c.loop-r.invariant.1.below) in
+    search rules
 
 pub loop-r-smaller : goal.loop-r-smaller
 loop-r-smaller c =
     let same = c.loop-r.invariant.0 in
     let inside : c.loop-r.r.at < length c.args.path.now = rw (← same) (search rules) in
-    let d = subst (λ (p : List ℕ). Decoded p c.loop-r.r.at c.segment.result) same c.segment.ensures in
-    rw c.moved-r.ensures.1 (going_less _ _ _ c.loop-r.invariant.1 _ _ d c.next_of-next.ensures inside c.if-next-eq0.false)
+    going_less _ _ _ c.loop-r.invariant.1 _ _ (rw same at c.in_ok-segment.ensures.stands) inside
 
 pub loop-r-preserved : goal.loop-r-preserved
 loop-r-preserved c =
-    let same = c.loop-r.invariant.0 in
-    let d = subst (λ (p : List ℕ). Decoded p c.loop-r.r.at c.segment.result) same c.segment.ensures in (
-      ap (λ (y : Bor (List ℕ)). y.now) c.moved-r.ensures.0 ∙ same,
-      subst (λ (n : ℕ). Counting c.args.path.now n (c.loop-r.count + 1)) (sym c.moved-r.ensures.1)
-          (going_next _ _ _ c.loop-r.invariant.1 _ _ d c.next_of-next.ensures c.if-next-eq0.false),
+    let same = c.loop-r.invariant.0 in (
+      ap (λ (y : Bor (List ℕ)). y.now) c.in_ok-segment.ensures.path_is ∙ same,
+      going_next _ _ _ c.loop-r.invariant.1 _ _ (rw same at c.in_ok-segment.ensures.stands),
     )
 
 pub returns : goal.returns

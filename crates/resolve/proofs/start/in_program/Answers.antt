@@ -1,20 +1,32 @@
 -- A program that is found is one of at most 16, so its scope is exact; in that scope the tag is looked for as in the definition.
+use mathlib.Core.Path.{sym, ◌∙◌}
 use Prim.Native.Nat.{◌<◌}
-use native.Mathlib.Omega.{arith}
-use mathlib.Core.Path.{refl}
-use Rattle.resolve.proofs.Starting.{program_few, program_found, programs_laws}
-use borrow.Author.Rules.{rules}
+use Rattle.std.proofs.Common.{rules}
+use Rattle.std.proofs.lemmas.Result.{err_from_is_err_and}
+use Rattle.model.specs.Tables.{tables_of}
+use Rattle.resolve.proofs.Rows.{found_none, found_some}
+use Rattle.resolve.proofs.Starting.{program_few, program_found, program_none}
 use Rattle.resolve.proofs.start.in_program.Goals as goal
 
+pub returns-in_err-k : goal.returns-in_err-k
+returns-in_err-k c =
+    let p = err_from_is_err_and c.from_residual.result c.from_residual.ensures.1 in
+    let n = found_none _ _ _ _ c.ok_or.ensures.value c.in_err-k.was in
+    rw (p.1, p.2, n.1) (program_none _ _ _ c.args.name.now _ (sym c.find_program.ensures ∙ n.0))
+
 pub overflow_add-k : goal.overflow_add-k
-overflow_add-k c = let h : c.in-At.k < 16 = search program_few in omega (arith, h)
+overflow_add-k c =
+    let s = sym c.find_program.ensures ∙ found_some _ _ _ _ c.ok_or.ensures.value c.in_ok-k.was in
+    let few : c.in_ok-k.k < 16 = program_few (tables_of c.args.c.now.tables) c.args.name.now c.in_ok-k.k c.requires.1 s in
+    search rules
 
 pub overflow_cast-k : goal.overflow_cast-k
-overflow_cast-k c = let h : c.in-At.k < 16 = search program_few in omega (arith, h)
+overflow_cast-k c =
+    let s = sym c.find_program.ensures ∙ found_some _ _ _ _ c.ok_or.ensures.value c.in_ok-k.was in
+    let few : c.in_ok-k.k < 16 = program_few (tables_of c.args.c.now.tables) c.args.name.now c.in_ok-k.k c.requires.1 s in
+    search rules
 
-pub returns-in-At : goal.returns-in-At
-returns-in-At c =
-    program_found _ _ _ _ c.find_program.ensures _ _ _ _ _ _ _ _ (search rules) refl c.in_scope.ensures
-
-pub returns-in-Nothing : goal.returns-in-Nothing
-returns-in-Nothing c = search programs_laws
+pub returns : goal.returns
+returns c =
+    let s = sym c.find_program.ensures ∙ found_some _ _ _ _ c.ok_or.ensures.value c.in_ok-k.was in
+    program_found _ _ _ c.args.name.now _ _ _ s c.in_scope.ensures

@@ -1,6 +1,6 @@
 -- The three lengths as numbers are the row's list of lengths.
-use Rattle.rows.proofs.Laws.{lengths_three}
+use Rattle.rows.proofs.Laws.{lengths_by}
 use Rattle.rows.proofs.row.lengths_first.Goals as goal
 
 pub returns : goal.returns
-returns c = rw lengths_three c.zeros_last.ensures
+returns c = lengths_by c.args.row.now _ c.zeros_last.ensures

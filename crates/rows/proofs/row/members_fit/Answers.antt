@@ -1,13 +1,9 @@
--- Each member before j fits, so the test of the rest is the test of all.
-use Rattle.laws.proofs.Loops.{everys}
-use borrow.Author.Rules.{rules}
+-- The chain answers as the library's law of it says, which is the definition's.
+use Rattle.std.proofs.Common.{rules, tests}
+use Rattle.rows.proofs.AllRows.{all_rows}
+use Rattle.definition.specs.Valid.{member_fits}
 use Rattle.rows.proofs.row.members_fit.Goals as goal
 
-pub loop-j-preserved : goal.loop-j-preserved
-loop-j-preserved c = (search rules, search everys)
-
-pub returns-else-member_fits : goal.returns-else-member_fits
-returns-else-member_fits c = search everys
-
 pub returns : goal.returns
-returns c = search everys
+returns c =
+    all_rows (member_fits c.args.structures.now c.args.i c.args.size) c.args.members.now _ c.all.ensures.ran (cc) (λ x b q k. search (rules, tests))

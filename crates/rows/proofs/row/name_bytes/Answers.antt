@@ -1,16 +1,12 @@
--- Each byte before i is printable, so the test of the rest is the test of all.
-use Rattle.laws.proofs.Loops.{everys}
+-- The chain answers as the library's law of it says, which is the definition's.
+use Rattle.std.proofs.Common.{rules, tests}
+use Rattle.rows.proofs.AllRows.{all_rows}
+use Rattle.std.specs.Prelude.{leb}
+use Rattle.laws.specs.Pick.{both}
 use Rattle.definition.specs.Breach.{name_bytes}
-use borrow.Author.Rules.{rules}
 use Rattle.rows.proofs.row.name_bytes.Goals as goal
-
-pub loop-i-preserved : goal.loop-i-preserved
-loop-i-preserved c = (search rules, search everys)
-
-pub returns-else-is_printable : goal.returns-else-is_printable
-unfolding name_bytes
-returns-else-is_printable c = search everys
 
 pub returns : goal.returns
 unfolding name_bytes
-returns c = search everys
+returns c =
+    all_rows (λ b. both (leb 0x20 b) (leb b 0x7E)) c.args.name.now _ c.all.ensures.ran (cc) (λ x b q k. search (rules, tests))

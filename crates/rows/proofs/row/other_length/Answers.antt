@@ -1,23 +1,20 @@
--- The tests in the order of `by_tests`, which the definition's length comes to.
-use mathlib.Core.Path.{refl}
-use Rattle.laws.proofs.Chain.{chain, by_call, pick_yes_by, pick_no_by}
-use Rattle.definition.proofs.OtherNames.{by_tests_lem}
+-- A name of 1 to 40 bytes, or one of at most 40 behind some prefix.
+use Rattle.std.specs.Prelude.{refl}
+use Rattle.laws.specs.Tests.{some_of}
+use Rattle.std.proofs.Common.{rules, tests, ◌∙◌, ap}
+use Rattle.std.proofs.lemmas.Iterator.{YieldsList-from_slice}
+use Rattle.std.proofs.lemmas.Iterator.Search.{any_from_yields_List}
+use Rattle.laws.proofs.Chains.{any_is}
+use Rattle.rows.proofs.Laws.{other_length_by, behind}
 use Rattle.rows.proofs.row.other_length.Goals as goal
 
 pub returns-then-name_length : goal.returns-then-name_length
-returns-then-name_length c = rw by_tests_lem (search (chain, by_call))
+returns-then-name_length c = rw other_length_by (rw (← c.name_length.ensures, c.if-name_length.true) refl)
 
-pub returns-then-starts_with : goal.returns-then-starts_with
-returns-then-starts_with c = rw by_tests_lem (search (chain, by_call))
-
-pub returns-then-starts_with-2 : goal.returns-then-starts_with-2
-returns-then-starts_with-2 c = rw by_tests_lem (search (chain, by_call))
-
-pub returns-then-starts_with-3 : goal.returns-then-starts_with-3
-returns-then-starts_with-3 c =
-    rw by_tests_lem (pick_no_by _ _ _ _ _ c.name_length.ensures c.if-name_length.false
-    (pick_no_by _ _ _ _ _ c.starts_with.ensures c.if-starts_with.false (pick_no_by _ _ _ _ _ c.starts_with-2.ensures c.if-starts_with-2.false
-    (pick_yes_by _ _ _ _ _ c.starts_with-3.ensures c.if-starts_with-3.true refl))))
-
-pub returns : goal.returns
-returns c = rw by_tests_lem (search (chain, by_call) depth 24)
+pub returns-else-name_length : goal.returns-else-name_length
+unfolding some_of
+returns-else-name_length c =
+    let rest = c.iter.result.rest.now in
+    let any = any_is (λ p. behind c.args.name.now p.now) rest c.any.result
+    (any_from_yields_List _ _ _ _ c.any.ensures.ran (YieldsList-from_slice rest cc) (λ x b q k. search (rules, tests))) in
+    rw (other_length_by, ← c.name_length.ensures, c.if-name_length.false) (any ∙ ap (some_of (λ p. behind c.args.name.now p.now)) c.iter.ensures.rest)

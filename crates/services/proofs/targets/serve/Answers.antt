@@ -6,8 +6,8 @@ use Rattle.services.proofs.targets.serve.Goals as goal
 pub returns-then-is_read : goal.returns-then-is_read
 returns-then-is_read c = search serving
 
-pub masked_write-status-requires : goal.masked_write-status-requires
-masked_write-status-requires c = aimed_atomic _ _ _ c.requires.0
+pub masked_write-stored-requires : goal.masked_write-stored-requires
+masked_write-stored-requires c = aimed_atomic _ _ _ c.requires.0
 
 pub returns-then-service-eq-WRITE_MASKED : goal.returns-then-service-eq-WRITE_MASKED
 returns-then-service-eq-WRITE_MASKED c = search serving

@@ -5,20 +5,18 @@ use Rattle.model.proofs.Lent.{some-valid}
 use Rattle.services.proofs.targets.tag_service.Goals as goal
 
 pub tag_target-requires : goal.tag_target-requires
-tag_target-requires c = (c.requires.0, some-valid _ _ _ c.requires.1 refl)
+tag_target-requires c = (c.requires.decodes, some-valid _ _ _ c.requires.judged refl)
 
 pub serve-requires : goal.serve-requires
 serve-requires c = (
-  tag_aimed _ _ _ _ _ c.requires.1 c.requires.0 _ _ c.in-Found.is c.tag_target.ensures,
-  c.requires.2,
+  tag_aimed _ _ _ _ _ c.requires.judged c.requires.decodes _ _ c.in-Ok.is c.tag_target.ensures,
+  c.requires.room,
 )
 
-pub returns-in-Found : goal.returns-in-Found
-returns-in-Found c =
-    tag_found _ _ _ _ _ _ _ _ c.is_write.ensures _
-    c.tag_target.ensures _ _ _ _ _ c.in-Found.is c.serve.ensures
+pub returns-in-Ok : goal.returns-in-Ok
+returns-in-Ok c =
+    tag_found _ _ _ _ _ _ _ _ c.is_write.ensures _ c.tag_target.ensures _ _ _ _ _ c.in-Ok.is c.serve.ensures
 
-pub returns-in-Turned : goal.returns-in-Turned
-returns-in-Turned c =
-    tag-turned _ _ _ _ _ _ _ _ c.is_write.ensures _
-    c.tag_target.ensures _ _ _ _ _ c.in-Turned.is refl c.fail.ensures
+pub returns-in-Err : goal.returns-in-Err
+returns-in-Err c =
+    tag-turned _ _ _ _ _ _ _ _ c.is_write.ensures _ c.tag_target.ensures _ _ _ _ _ c.in-Err.is refl c.fail.ensures

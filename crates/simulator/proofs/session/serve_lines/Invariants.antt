@@ -2,10 +2,10 @@
 use Rattle.std.proofs.Common.{◌≡◌, ◌≤◌, ◌-◌, length}
 use Rattle.simulator.proofs.session.serve_lines.Given as goal
 
-abbrev pub invariant-loop-end : goal.invariant-loop-end
-invariant-loop-end g l =
-    (l.start ≤ l.end) × (l.end ≤ length l.input) × (length l.request ≡ length l.initial.request) × (length l.buf ≡ length l.initial.buf) ×
+abbrev pub invariant-loop-len : goal.invariant-loop-len
+invariant-loop-len g l =
+    (l.next.at ≤ length l.input) × (length l.request ≡ length l.initial.request) × (length l.buf ≡ length l.initial.buf) ×
     (length l.memory ≡ length l.initial.memory)
 
-abbrev pub decreases-loop-end : goal.decreases-loop-end
-decreases-loop-end g l = length l.input - l.start
+abbrev pub decreases-loop-len : goal.decreases-loop-len
+decreases-loop-len g l = length l.input - l.next.at

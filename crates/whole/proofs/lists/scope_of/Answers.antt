@@ -1,25 +1,26 @@
 -- No name is scope 0; a program that is found is a row, so its position plus one is exact.
-use Rattle.listing.proofs.Starts.{program_inside}
-use mathlib.Core.Path.{refl}
-use Rattle.whole.proofs.Outcomes.{scope_controller, scope_known, scope_unknown}
-use borrow.Author.Rules.{rules}
+use Rattle.std.proofs.Common.{rules, sym}
+use Rattle.listing.proofs.Found.{program_inside}
+use Rattle.whole.proofs.Outcomes.{scope_controller, scope_unknown, scope_known}
 use Rattle.whole.proofs.lists.scope_of.Goals as goal
 
-pub returns-then-program-eq0 : goal.returns-then-program-eq0
-returns-then-program-eq0 c = scope_controller _ _ _ c.if-program-eq0.true
+pub returns-then-is_empty : goal.returns-then-is_empty
+returns-then-is_empty c = scope_controller _ _ (search rules)
+
+pub returns-in_err-k : goal.returns-in_err-k
+returns-in_err-k c = rw c.from_residual.ensures (scope_unknown _ _ (search rules) (sym c.in_err-k.ensures))
 
 pub overflow_cast-result : goal.overflow_cast-result
 overflow_cast-result c =
-    let h = (program_inside _ c.args.names.now c.args.program.now _ _ c.in-At.is c.program_of.ensures) in
+    let h = program_inside _ _ _ c.in_ok-k.ensures in
+    let few = c.requires in
     search rules
 
 pub overflow_add-result : goal.overflow_add-result
 overflow_add-result c =
-    let h = (program_inside _ c.args.names.now c.args.program.now _ _ c.in-At.is c.program_of.ensures) in
+    let h = program_inside _ _ _ c.in_ok-k.ensures in
+    let few = c.requires in
     search rules
 
-pub returns-in-At : goal.returns-in-At
-returns-in-At c = scope_known _ _ _ c.if-program-eq0.false _ c.program_of.ensures _ _ refl c.in-At.is
-
-pub returns-in-Nothing : goal.returns-in-Nothing
-returns-in-Nothing c = scope_unknown _ _ _ c.if-program-eq0.false _ c.program_of.ensures c.in-Nothing.is
+pub returns : goal.returns
+returns c = scope_known _ _ _ (search rules) (sym c.in_ok-k.ensures)

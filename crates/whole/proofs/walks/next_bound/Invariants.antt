@@ -1,20 +1,20 @@
-use Prim.Native.Nat.{◌-◌, ◌≤◌}
-use lib.ListN.{drop}
+-- From each bound on the entries that still fit end before the same ID and leave the same due.
+use Rattle.std.proofs.Common.{◌-◌, ◌≤◌}
 use Rattle.laws.specs.Put.{KeptFrom}
-use Rattle.definition.specs.Bytes.{numbers}
-use Rattle.definition.specs.Symbols.{due}
-use Rattle.model.specs.Tables.{WhereValid, for_page}
+use Rattle.model.specs.Tables.{tables_of, WhereValid}
+use Rattle.listing.specs.Entries.{page_lent}
+use Rattle.listing.specs.Numbers.{numbers_in}
 use Rattle.whole.specs.Lists.{behind}
-use Rattle.whole.specs.Turns.{front, next_id}
+use Rattle.whole.specs.Turns.{due_on, front, next_id}
 use Rattle.whole.proofs.Walking.{Passes}
 use Rattle.whole.proofs.walks.next_bound.Given as goal
 
-abbrev pub invariant-loop-u : goal.invariant-loop-u
-invariant-loop-u l =
-    let list = numbers l.n (drop 2 l.body) in
-    (4 ≤ l.used) × (l.used ≤ l.size) × KeptFrom l.size l.initial.buf l.buf
-    × WhereValid (for_page l.structures l.tags l.others l.names l.tag_names)
-    (λ t. Passes t l.scope list (l.size - l.used) l.bound (next_id l.start (front l.size (due t l.scope list l.start))) (behind l.size (due t l.scope list l.start)))
+abbrev pub invariant-loop-next : goal.invariant-loop-next
+invariant-loop-next l =
+    (4 ≤ l.walk.used) × (l.walk.used ≤ l.size) × KeptFrom l.size l.initial.buf l.buf
+    × WhereValid (page_lent (tables_of l.t))
+    (λ t. Passes t l.page.start.scope (numbers_in l.page.numbers) (l.size - l.walk.used) l.walk.bound
+    (next_id l.page.start.id (front l.size (due_on t l.page))) (behind l.size (due_on t l.page)))
 
-abbrev pub decreases-loop-u : goal.decreases-loop-u
-decreases-loop-u l = l.size - l.used
+abbrev pub decreases-loop-next : goal.decreases-loop-next
+decreases-loop-next l = l.size - l.walk.used

@@ -2,8 +2,5 @@
 use Rattle.whole.proofs.Walking.{starts_next}
 use Rattle.whole.proofs.walks.next_start.Goals as goal
 
-pub returns : goal.returns
-returns c = (
-  λ o m v. starts_next _ _ _ _ _ _ _ (c.next_bound-bound.ensures.0 o m v) m v _ c.start_from.ensures,
-  c.next_bound-bound.ensures.1,
-)
+pub returns-clause-starts : goal.returns-clause-starts
+returns-clause-starts c = λ o m v. starts_next _ _ _ _ _ _ _ (c.next_bound-bound.ensures.passed o m v) m v _ c.start_from.ensures

@@ -1,4 +1,4 @@
--- Each answer that brings something brings the end nearer; answers and bytes received count up together.
+-- It ends: each answer that brings something brings the end nearer; answers and bytes received count up together.
 use Rattle.std.proofs.Common.{suc, ◌≤◌, ◌-◌}
 use Rattle.worked.proofs.one_read.opened.Given as goal
 

@@ -1,15 +1,8 @@
-use mathlib.Core.Path.{◌≡◌}
-use Prim.Native.Nat.{◌-◌, ◌≤◌}
-use lib.ListN.{length}
-use lib.Seq.{paste}
-use Rattle.definition.specs.Bytes.{part}
-use Rattle.definition.specs.Joined.{join_ors}
+-- The OR masks below i have the next ones' bits too, and the rest is as it was.
+use lib.Bits.{bit_or}
+use lib.ListN.{get_or}
+use Rattle.writes.proofs.Masking.{Changed}
 use Rattle.writes.proofs.masks.add_ors.Given as goal
 
-abbrev pub invariant-loop-j : goal.invariant-loop-j
-invariant-loop-j l =
-    (l.masks ≡ paste l.initial.masks l.at (join_ors (part l.initial.masks l.at (length l.next)) l.next) l.j) × (l.j ≤ length l.next) ×
-    (length l.masks ≡ length l.initial.masks)
-
-abbrev pub decreases-loop-j : goal.decreases-loop-j
-decreases-loop-j l = length l.next - l.j
+abbrev pub invariant-loop-i : goal.invariant-loop-i
+invariant-loop-i l = Changed (λ i b. bit_or b (get_or l.next i 0)) l.initial.ors l.i l.ors

@@ -1,15 +1,8 @@
-use mathlib.Core.Path.{◌≡◌}
-use Prim.Native.Nat.{◌-◌, ◌≤◌}
-use lib.ListN.{length}
-use lib.Seq.{paste}
-use Rattle.definition.specs.Bytes.{part}
-use Rattle.definition.specs.Masked.{masked}
+-- The bytes below i are masked, and the rest is as it was.
+use lib.Bits.{bit_or, bit_and}
+use lib.ListN.{get_or}
+use Rattle.writes.proofs.Masking.{Changed}
 use Rattle.writes.proofs.masks.apply_masks.Given as goal
 
-abbrev pub invariant-loop-j : goal.invariant-loop-j
-invariant-loop-j l =
-    (l.memory ≡ paste l.initial.memory l.at (masked (part l.initial.memory l.at (length l.ors)) l.ors l.ands) l.j) × (l.j ≤ length l.ors) ×
-    (length l.memory ≡ length l.initial.memory)
-
-abbrev pub decreases-loop-j : goal.decreases-loop-j
-decreases-loop-j l = length l.ors - l.j
+abbrev pub invariant-loop-i : goal.invariant-loop-i
+invariant-loop-i l = Changed (λ i b. bit_and (bit_or b (get_or l.ors i 0)) (get_or l.ands i 0)) l.initial.bytes l.i l.bytes

@@ -3,6 +3,4 @@ use Rattle.writes.proofs.Masking.{joined_at}
 use Rattle.writes.proofs.masks.join_at.Goals as goal
 
 pub returns : goal.returns
-returns c =
-    joined_at c.args.request.now c.args.at c.args.next_ors.now c.args.next_ands.now _
-    _ c.requires.0 c.requires.1 c.add_ors.ensures c.apply_masks.ensures
+returns c = joined_at _ _ _ _ _ _ c.requires.0 c.requires.1 c.add_ors.ensures c.apply_masks.ensures

@@ -1,22 +1,27 @@
--- Each field stands where the definition has it; all fields have at least four bytes, so those of a handle can be read always.
-use native.Mathlib.Omega.{arith}
-use Rattle.definition.specs.Write.{fields_of}
-use Rattle.writes.proofs.Storing.{some-fields}
+-- Each field stands where the definition has it, if all of them are there.
+use mathlib.Core.Path.{◌≡◌, ◌∙◌}
+use lib.ListN.{length, drop}
+use borrow.Author.Tests.{le-ltb}
+use Rattle.laws.proofs.Parts.{to_end}
+use Rattle.definition.specs.Write.{fields_of, fields_size}
 use Rattle.writes.proofs.values.fields_of.Goals as goal
-
-pub u16_at-requires-2 : goal.u16_at-requires-2
-u16_at-requires-2 c = omega (arith, some-fields c.args.service c.args.body.now)
 
 pub returns : goal.returns
 unfolding fields_of
 returns c =
+    let found = c.in_ok-value.ensures.lookup.0 in
+    let there = found.0 in
+    let value : c.in_ok-value.value.now ≡ drop (fields_size c.args.service c.args.body.now) c.args.body.now =
+    rw (← c.type_size-at.ensures, ← c.offset_size.ensures) (found.2 ∙ to_end c.args.body.now _) in
     rw (
-      c.word16-ty.ensures,
+      le-ltb (length c.args.body.now) (fields_size c.args.service c.args.body.now) (rw (← c.type_size-at.ensures, ← c.offset_size.ensures) there),
+      c.from.ensures,
       c.u16_at.ensures,
-      c.word16-handle.ensures,
+      c.from-2.ensures,
       c.u16_at-2.ensures,
-      c.wide16-elements.ensures,
+      c.from-3.ensures,
       c.u16_at-3.ensures,
-      c.offset_at-offset.ensures,
+      c.offset_at.ensures,
       c.type_size-at.ensures,
+      value,
     )

@@ -1,5 +1,0 @@
--- The library's function promises just this.
-use Rattle.ciplink_c.proofs.ciplink_read_whole.Goals as goal
-
-pub returns : goal.returns
-returns c = c.ciplink_read_whole.ensures

@@ -1,9 +1,0 @@
--- Two tests in the statement's order.
-use Rattle.laws.proofs.Chain.{chain}
-use Rattle.listing.proofs.templates.nothing_fits.Goals as goal
-
-pub returns-then-due-space : goal.returns-then-due-space
-returns-then-due-space c = search chain
-
-pub returns : goal.returns
-returns c = search chain

@@ -1,0 +1,46 @@
+// A list of attribute numbers: their count in 16 bits, and as many numbers of 16 bits.
+ghost use Rattle.std.specs.Prelude.{◌≡◌, ◌≤◌, length};
+ghost use Rattle.laws.specs.Tests.{every};
+ghost use Rattle.definition.specs.Bytes.{u16_at, counted};
+ghost use Rattle.definition.specs.Symbols.{is_listed};
+
+/// The numbers of a list, two bytes each.
+#[derive(Clone, Copy)]
+pub struct Numbers<'a> {
+    pub pairs: &'a [[u8; 2]],
+    pub ghost few: { length pairs.now ≤ 65535 },
+}
+
+impl<'a> Numbers<'a> {
+    ghost use Rattle.listing.specs.Numbers.{numbers_in, list_of};
+
+    /// The list that a body starts with; none where its count or one of its numbers is missing.
+    pub fn read(body: &'a [u8]) -> Option<Numbers<'a>>
+        ensures { list_of result ≡ counted body.now }
+    {
+        let count = usize::from(cip::u16_at(body.get(..2)?, 0));
+        let (pairs, _) = body.get(2..2 + 2 * count)?.as_chunks::<2>();
+        Some(Numbers { pairs })
+    }
+
+    /// Whether a page knows all numbers of a list.
+    pub fn all_listed(&self) -> bool
+        ensures { result ≡ every is_listed (numbers_in self.now) }
+    {
+        self.pairs.iter().all(|pair| is_listed(word(pair)))
+    }
+}
+
+/// One number of a list.
+pub(crate) fn word(pair: &[u8; 2]) -> u16
+    ensures { result ≡ u16_at pair.now 0 }
+{
+    u16::from_le_bytes(*pair)
+}
+
+/// Whether an attribute is one that a page knows.
+fn is_listed(number: u16) -> bool
+    ensures { result ≡ is_listed number }
+{
+    matches!(number, 1..=3 | 5..=8 | 10)
+}

@@ -1,9 +1,0 @@
--- The lookup is the definition's, and its two cases are those of `start_at`.
-use Rattle.resolve.proofs.Starting.{start_laws}
-use Rattle.resolve.proofs.start.named.Goals as goal
-
-pub returns-in-At : goal.returns-in-At
-returns-in-At c = search start_laws
-
-pub returns-in-Nothing : goal.returns-in-Nothing
-returns-in-Nothing c = search start_laws
