@@ -109,7 +109,7 @@ const SIZED_15: [Option<First>; 4] = [
 const SYMBOL: [Option<First>; 4] = [None, Some(First::Symbol), None, None];
 
 /// A row for each segment type (bits 7 to 5), in it a name for each logical type (bits 4 to 2), under which stand the four formats (bits 1 and 0).
-const FIRST_BYTES: [[[Option<First>; 4]; 8]; 8] = [
+static FIRST_BYTES: [[[Option<First>; 4]; 8]; 8] = [
     // 0x00, port: bit 4 says that the link has its size, bits 3 to 0 are the port's number
     [PORT, PORT, PORT, PORT_15, SIZED, SIZED, SIZED, SIZED_15],
     // 0x20, logical: connection points, special segments and services are not taken
