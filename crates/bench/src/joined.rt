@@ -47,9 +47,9 @@ fn exchange(
 fn last_id(entries: &[u8]) -> u32 {
     let mut rest = entries;
     let mut id = 0;
-    while 8 <= rest.len() {
-        id = cip::u32_at(rest, 0);
-        let size = 8 + usize::from(cip::u16_at(rest, 4));
+    while let Some(head) = rest.get(..8) {
+        id = cip::u32_at(head, 0);
+        let size = 8 + usize::from(cip::u16_at(head, 4));
         let Some(behind) = rest.get(size..) else {
             return id;
         };

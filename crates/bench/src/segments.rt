@@ -1,5 +1,5 @@
 // Segment vectors: paths as CIP Volume 1's appendix on segments encodes them, and what the decoder makes of each.
-use crate::tally::Hex;
+use input::bytes::Hex;
 use path::Segment;
 use std::io;
 
@@ -21,14 +21,11 @@ fn show(to: &impl Print, segment: Segment, at: usize) -> io::Result<()> {
 fn segments(to: &impl Print, path: &[u8]) -> io::Result<()> {
     print!(to; "path{}:", Hex(path))?;
     let mut at = 0;
-    while at < path.len() {
-        let Some(step) = path::segment_at(path, at) else {
-            return println!(to; " invalid");
-        };
+    while let Some(step) = path::segment_at(path, at) {
         show(to, step.segment, at)?;
         at = step.next;
     }
-    println!(to; " end")
+    println!(to; "{}", if at < path.len() { " invalid" } else { " end" })
 }
 
 /// Paths as the appendix encodes them, and ones that break it.

@@ -58,7 +58,7 @@ const SOUND: Set = Set {
     other: PROGRAM,
 };
 
-/// Judges the sound set with an edit.
+/// Judges the sound set with an edit. Each call below is a line: edits are closures of as many types, so no table holds them.
 fn judge<F: FnOnce(&mut Set)>(to: &impl Print, label: &str, edit: F) -> io::Result<()>
     requires { F.IsAlwaysCallable edit }
 {

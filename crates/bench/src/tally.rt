@@ -1,18 +1,6 @@
 // What was compared: a line of output for each comparison, and the counts.
+use input::bytes::Hex;
 use std::{fmt, io};
-
-/// Two digits for each byte, with a space before them.
-#[derive(Clone, Copy, PartialEq, Eq)]
-pub struct Hex<'a>(pub &'a [u8]);
-
-impl<'a> fmt::Display for Hex<'a> {
-    fn fmt<W: fmt::Write>(&self, f: &mut fmt::Formatter<W>) -> fmt::Result {
-        for b in self.0 {
-            write!(f, " {b:02x}")?;
-        }
-        Ok(())
-    }
-}
 
 /// A number with a space before it.
 #[derive(Clone, Copy, PartialEq, Eq)]

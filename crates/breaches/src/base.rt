@@ -6,14 +6,14 @@ use crate::edits::{Edit, Names};
 use tables::rules::Table;
 
 /// Names of rows; behind them `MAIN` and `COUNT`, which no row of the base has.
-const STORE: [u8; 98] =
+pub const STORE: [u8; 98] =
     *b"StatusMotorRampHostRunFaultStateSpeedLimitStepsStartMainFeedProgram:MainProgram:FeedClockMAINCOUNT";
 
 /// Names of tags; behind them `COUNT`, and bytes by which a wrong length runs on.
-const TAG_STORE: [u8; 42] = *b"CountRowsPressBitsSpeedCOUNTLevelTotalZone";
+pub const TAG_STORE: [u8; 42] = *b"CountRowsPressBitsSpeedCOUNTLevelTotalZone";
 
 /// `Status`; `Motor`, which has a member of that type; `Ramp`, an AOI.
-const THREE_STRUCTURES: [[u32; 10]; 3] = [
+pub const THREE_STRUCTURES: [[u32; 10]; 3] = [
     [0, 6, 0x100, 0x1234, 4, 0, 3, 0, 0, 8],
     [6, 5, 0x101, 0x2345, 12, 3, 3, 0, 8, 8],
     [11, 4, 0x102, 0x3456, 8, 6, 2, 1, 16, 8],
@@ -21,7 +21,7 @@ const THREE_STRUCTURES: [[u32; 10]; 3] = [
 
 /// `Host`, hidden, with the bits `Run` and `Fault`; `State` of type `Status`, `Speed` and `Limit`; `Steps`, an array, and
 /// `Start`, a local.
-const EIGHT_MEMBERS: [[u32; 9]; 8] = [
+pub const EIGHT_MEMBERS: [[u32; 9]; 8] = [
     [15, 4, 0xC2, 0, 0, 8, 1, 0, 0],
     [19, 3, 0xC1, 0, 0, 0, 0, 0, 0],
     [22, 5, 0xC1, 0, 0, 1, 0, 0, 0],
@@ -33,11 +33,11 @@ const EIGHT_MEMBERS: [[u32; 9]; 8] = [
 ];
 
 /// `Main` and `Feed`.
-const TWO_PROGRAMS: [[u32; 2]; 2] = [[52, 4], [56, 4]];
+pub const TWO_PROGRAMS: [[u32; 2]; 2] = [[52, 4], [56, 4]];
 
 /// Of the controller `Count`, `Rows` of length 10 and `Press`, a `Motor`; of `Main` `Bits`, 64 bits in two DWORDs, and
 /// `Speed`, an alias. Between any two are bytes that no tag has.
-const FIVE_TAGS: [[u32; 12]; 5] = [
+pub const FIVE_TAGS: [[u32; 12]; 5] = [
     [0, 0, 5, 1, 0xC4, 0, 0, 0, 1, 0, 0, 0],
     [0, 5, 4, 2, 0xC4, 10, 0, 0, 10, 0, 0, 8],
     [0, 9, 5, 3, 0x101, 0, 0, 0, 1, 0, 0, 52],
@@ -46,14 +46,14 @@ const FIVE_TAGS: [[u32; 12]; 5] = [
 ];
 
 /// `Program:Main`, `Program:Feed` and `Clock`, of the controller.
-const THREE_OTHERS: [[u32; 5]; 3] = [
+pub const THREE_OTHERS: [[u32; 5]; 3] = [
     [0, 60, 12, 10, 0x1068],
     [0, 72, 12, 11, 0x1068],
     [0, 84, 5, 12, 0x1070],
 ];
 
 /// The rows of a table: its base, with the edit's word if that is of this table.
-fn edited<const N: usize, const BASE: usize, const ROWS: usize>(
+pub fn edited<const N: usize, const BASE: usize, const ROWS: usize>(
     base: &[[u32; N]; BASE],
     table: Table,
     e: Edit,
@@ -71,40 +71,12 @@ fn edited<const N: usize, const BASE: usize, const ROWS: usize>(
     rows
 }
 
-pub fn structures(e: Edit) -> [[u32; 10]; 65] {
-    edited(&THREE_STRUCTURES, Table::Structures, e)
-}
-
-pub fn members(e: Edit) -> [[u32; 9]; 513] {
-    edited(&EIGHT_MEMBERS, Table::Members, e)
-}
-
-pub fn programs(e: Edit) -> [[u32; 2]; 17] {
-    edited(&TWO_PROGRAMS, Table::Programs, e)
-}
-
-pub fn tags(e: Edit) -> [[u32; 12]; 1025] {
-    edited(&FIVE_TAGS, Table::Tags, e)
-}
-
-pub fn others(e: Edit) -> [[u32; 5]; 65] {
-    edited(&THREE_OTHERS, Table::Others, e)
-}
-
 /// A store of names, with the edit's byte if that is of this store.
-fn respelled<const N: usize>(base: [u8; N], names: Names, e: Edit) -> [u8; N] {
+pub fn respelled<const N: usize>(base: [u8; N], names: Names, e: Edit) -> [u8; N] {
     let mut store = base;
     match e {
         Edit::Byte(of, at, byte) if of == names && at < N => store[at] = byte,
         _ => {}
     }
     store
-}
-
-pub fn names(e: Edit) -> [u8; 98] {
-    respelled(STORE, Names::OfRows, e)
-}
-
-pub fn tag_names(e: Edit) -> [u8; 42] {
-    respelled(TAG_STORE, Names::OfTags, e)
 }

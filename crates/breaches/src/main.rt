@@ -4,7 +4,8 @@
 mod base;
 mod edits;
 
-use crate::edits::{EDITS, Edit};
+use crate::base::{edited, respelled};
+use crate::edits::{EDITS, Edit, Names};
 use model::Tables;
 use model::columns::{OTHER_NAME_START, TAG_ID, TAG_NAME_LENGTH, TAG_NAME_START, TAG_OFFSET};
 use std::io;
@@ -20,11 +21,11 @@ fn there<T>(rows: &[T], table: Table, usual: usize, e: Edit) -> &[T] {
 
 /// Judges the base with an edit. No rule looks at a byte of tag memory or of the template store.
 fn judge(to: &impl Print, e: Edit) -> io::Result<()> {
-    let structures = base::structures(e);
-    let members = base::members(e);
-    let programs = base::programs(e);
-    let tags = base::tags(e);
-    let others = base::others(e);
+    let structures: [_; 65] = edited(&base::THREE_STRUCTURES, Table::Structures, e);
+    let members: [_; 513] = edited(&base::EIGHT_MEMBERS, Table::Members, e);
+    let programs: [_; 17] = edited(&base::TWO_PROGRAMS, Table::Programs, e);
+    let tags: [_; 1025] = edited(&base::FIVE_TAGS, Table::Tags, e);
+    let others: [_; 65] = edited(&base::THREE_OTHERS, Table::Others, e);
     let zeros = [0; 65537];
     let tables = Tables {
         structures: there(&structures, Table::Structures, 3, e),
@@ -32,8 +33,8 @@ fn judge(to: &impl Print, e: Edit) -> io::Result<()> {
         programs: there(&programs, Table::Programs, 2, e),
         tags: there(&tags, Table::Tags, 5, e),
         others: there(&others, Table::Others, 3, e),
-        names: &base::names(e),
-        tag_names: &base::tag_names(e),
+        names: &respelled(base::STORE, Names::OfRows, e),
+        tag_names: &respelled(base::TAG_STORE, Names::OfTags, e),
         templates: there(&zeros, Table::Templates, 24, e),
     };
     wording::tell(to, &tables, there(&zeros, Table::Memory, 88, e))

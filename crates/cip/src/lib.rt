@@ -77,6 +77,7 @@ pub fn put_u8(buf: &mut [u8], at: usize, v: u8)
     buf[at] = v;
 }
 
+// Two widths, a line each over `copy_into`: it is here that the bytes become the definition's `le16` and `le32`.
 pub fn put_u16(buf: &mut [u8], at: usize, v: u16)
     requires { at + 2 ≤ length buf.old }
     ensures { buf.new ≡ put buf.old at (le16 v) }

@@ -15,7 +15,8 @@ use Rattle.continued.specs.Point3.{Memory, respond}
 use Rattle.continued.specs.Program.{Faithful, Total}
 use Rattle.continued.proofs.Clicks.{program_joins}
 use Rattle.continued.proofs.Program.{program_point_3, told_as, leaves_by, answer_point_3}
-use Rattle.ciplink.specs.Entries.{flags_in, code_of}
+use Rattle.model.specs.Tables.{flags_in}
+use Rattle.ciplink.specs.Entries.{code_of}
 use Rattle.ciplink.specs.Runs.{told_by, ByCiplinkMessage, CiplinkMessagePoint3, CiplinkMessageJoins, CiplinkAnswerPoint3}
 
 abbrev Short : Outcome → Type 0

@@ -1,7 +1,6 @@
--- The C entry points' numbers: flags as bits, and an outcome in 64 bits.
-use Rattle.std.specs.Prelude.{◌≡◌, List, [], ◌∷◌, ℕ, ◌+◌, ◌/◌, ◌%◌, eqb, length}
+-- The C entry points' numbers: an outcome in 64 bits.
+use Rattle.std.specs.Prelude.{◌≡◌, List, [], ◌∷◌, ℕ, ◌+◌, ◌%◌, length}
 use Rattle.std.specs.Prelude.{Option, None, Some, Result, Ok, Err}
-use Rattle.definition.specs.Tables.{Flags}
 use Rattle.definition.specs.Breach.{Breach}
 use Rattle.definition.specs.Entry.{Outcome, refused, replied, Entered}
 use Rattle.logix.specs.Entering.{number_of}
@@ -9,15 +8,6 @@ use Rattle.whole.specs.Whole as whole
 use Rattle.whole.specs.Whole.{Received}
 use Rattle.whole.specs.declared.Unjoined.{Unjoined}
 use Rattle.whole.specs.declared.Unjoined.TheVariants.{TooShort, TooNarrow, Turned, Refused, Unsendable}
-
--- bit 0 multi-service, 1 instance IDs, 2 AOI locals refused, 3 micro800
-abbrev pub flags_in : ℕ → Flags
-flags_in word = record {
-  multi_service = eqb (word % 2) 1;
-  instance_ids = eqb (word / 2 % 2) 1;
-  aoi_locals_refused = eqb (word / 4 % 2) 1;
-  micro800 = eqb (word / 8 % 2) 1;
-}
 
 -- the reply's length, or 0x1_0000_0000 plus the refusal's number
 abbrev pub code_of : Outcome → ℕ

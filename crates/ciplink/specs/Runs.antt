@@ -8,7 +8,8 @@ use Rattle.continued.specs.Reads.{Sent}
 use Rattle.continued.specs.Point3.{Memory, respond}
 use Rattle.continued.specs.Program.{ProgramStep, Total, Point3Holds, Taken, ByAnswer}
 use Rattle.continued.specs.Clicks.{Joins, RowJoins, NoChange}
-use Rattle.ciplink.specs.Entries.{flags_in, ToldReply}
+use Rattle.model.specs.Tables.{flags_in}
+use Rattle.ciplink.specs.Entries.{ToldReply}
 
 -- what the 64 bits of `ciplink_message` tell: a reply of so many of the buffer's first bytes, or from 0x1_0000_0000 on a refusal's number
 abbrev pub told_by : (code : ℕ) (buffer : List ℕ) → Outcome

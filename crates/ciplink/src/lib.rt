@@ -9,14 +9,14 @@ ghost use Rattle.definition.specs.Breach.{breach};
 ghost use Rattle.definition.specs.Answer.{answer};
 ghost use Rattle.definition.specs.Entry.{entry};
 ghost use Rattle.definition.specs.Joined.{pair, joinable, joined_to};
-ghost use Rattle.model.specs.Tables.{tables_of, flags_of};
+ghost use Rattle.model.specs.Tables.{tables_of, flags_of, flags_in};
 ghost use Rattle.services.specs.Answers.{Answers};
 ghost use Rattle.whole.specs.Whole.{whole_read};
 ghost use Rattle.whole.specs.Lists.{whole_list};
 ghost use Rattle.tables.specs.Rules.{told_of};
-ghost use Rattle.ciplink.specs.Entries.{flags_in, ToldReply, unjoined_code, whole_code, ToldWhole, told_words};
+ghost use Rattle.ciplink.specs.Entries.{ToldReply, unjoined_code, whole_code, ToldWhole, told_words};
 
-use model::{Controller, Flags, Tables};
+use model::{Controller, Tables};
 use tables::rules::Breach;
 use whole::Unjoined;
 use whole::pages::Listing;
@@ -34,18 +34,6 @@ const TOO_NARROW: u64 = 0x4_0000_0000;
 
 const UNSENDABLE: u64 = 0x5_0000_0000;
 
-/// Flags by their bits.
-fn flags_of(word: u32) -> Flags
-    ensures { flags_of result ≡ flags_in word }
-{
-    Flags {
-        multi_service: word % 2 == 1,
-        instance_ids: word / 2 % 2 == 1,
-        aoi_locals_refused: word / 4 % 2 == 1,
-        micro800: word / 8 % 2 == 1,
-    }
-}
-
 /// The controller of these tables, with flags by their bits.
 fn controller<'a>(t: &Tables<'a>, flags: u32) -> Controller<'a>
     ensures tables { tables_of result.tables ≡ tables_of t.now }
@@ -53,7 +41,7 @@ fn controller<'a>(t: &Tables<'a>, flags: u32) -> Controller<'a>
 {
     Controller {
         tables: *t,
-        flags: flags_of(flags),
+        flags: flags.into(),
     }
 }
 

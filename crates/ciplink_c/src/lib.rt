@@ -10,11 +10,11 @@ ghost use Rattle.definition.specs.Breach.{breach};
 ghost use Rattle.definition.specs.Answer.{answer};
 ghost use Rattle.definition.specs.Entry.{entry};
 ghost use Rattle.definition.specs.Joined.{pair, joinable, joined_to};
-ghost use Rattle.model.specs.Tables.{tables_of, tables_from};
+ghost use Rattle.model.specs.Tables.{tables_of, tables_from, flags_in};
 ghost use Rattle.services.specs.Answers.{Answers};
 ghost use Rattle.whole.specs.Whole.{whole_read};
 ghost use Rattle.whole.specs.Lists.{whole_list};
-ghost use Rattle.ciplink.specs.Entries.{flags_in, ToldReply, ToldWhole, told_words};
+ghost use Rattle.ciplink.specs.Entries.{ToldReply, ToldWhole, told_words};
 
 use model::Tables;
 use whole::pages::Listing;
@@ -93,6 +93,7 @@ pub extern "C" fn ciplink_breach(
     ciplink::ciplink_breach(&t, memory, told)
 }
 
+// The C interface has this and the next: this one asks for valid tables and refuses nothing at the entry.
 /// Answers a request over tables that ciplink_valid took, within the limits of items 1 to 3: the reply's length.
 #[unsafe(no_mangle)]
 pub extern "C" fn ciplink_answer(

@@ -36,15 +36,10 @@ pub fn read_more(from: &mut impl Read, input: &mut [u8], at: usize) -> io::Resul
 pub fn read_full(from: &mut impl Read, input: &mut [u8]) -> io::Result<usize>
     ensures { IfOk result (λ n. n ≤ length input.old) }
 {
-    let mut done = 0;
-    while done < input.len() {
-        let n = from.read(&mut input[done..])?;
-        if n == 0 {
-            return Ok(done);
-        }
-        done += n;
-    }
-    Ok(done)
+    let room = input.len();
+    let mut rest = input;
+    io::copy(&mut from.take(room as u64), &mut rest)?;
+    Ok(room.saturating_sub(rest.len()))
 }
 
 /// Says what keeps a line from being a request.

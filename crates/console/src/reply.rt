@@ -1,7 +1,7 @@
 // Bytes as text, two hex digits each; a reply with its general status in words.
 use std::{fmt, io};
 
-/// Bytes as two hex digits and a space each.
+/// Bytes as two hex digits and a space each. Not `input::bytes::Hex`: users see and send upper-case digits with the space behind.
 #[derive(Clone, Copy)]
 pub struct Hex<'a>(pub &'a [u8]);
 

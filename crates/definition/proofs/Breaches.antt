@@ -111,7 +111,8 @@ program_row : (names : List ℕ) (r : Row) → every (λ x. x.passes r) (program
 unfolding every program_rules name_length name_bytes is_name
 program_row names r = equal_tests _ _ (λ e. search regroup depth 20) (λ e. search regroup depth 20)
 
-tag-row : (structures : List Row) (tag_names : List ℕ) (programs memory : ℕ) (r : Row) → every (λ x. x.passes r) (tag_rules structures tag_names programs memory)
+tag-row : (structures : List Row) (tag_names : List ℕ) (programs memory : ℕ) (r : Row)
+    → every (λ x. x.passes r) (tag_rules structures tag_names programs memory)
     ≡ both (both (tag_encoded (length tag_names) programs r) (both (leb (tag_access r) 3) (is_name (tag_name tag_names r))))
     (both (ltb 0 (tag_id r)) (both (tag_fits (length structures) r) (leb (end_in structures r) memory)))
 unfolding every tag_rules name_length name_bytes has_elements is_name tag_encoded tag_fits

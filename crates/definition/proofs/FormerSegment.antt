@@ -1,4 +1,5 @@
--- The same paths give the same segments (document 02, P5): `segment_at`, whose steps stand in the volume's order, is the former one for all paths and positions.
+-- The same paths give the same segments (document 02, P5): `segment_at`, whose steps stand in the volume's order, is the former one for all paths and
+-- positions.
 -- The former text tested the format, 3 being of no kind, before the logical type, and took every form but 0 and 1 for 32 bits.
 -- Assumes nothing.
 use mathlib.Core.Path.{◌≡◌, refl, ap, fun_ext}

@@ -66,7 +66,8 @@ unfolding reply
 proper_fail limit service (general code) k = record { headed = headed_reply service (general code) [] k; fits = omega arith }
 proper_fail limit service (extended code word) k = record { headed = headed_reply service (extended code word) [] k; fits = omega arith }
 
-proper_reply : (limit service code : ℕ) (body : List ℕ) → is_status code ≡ true → 4 + length body ≤ room limit → Proper limit (reply service (general code) body)
+proper_reply : (limit service code : ℕ) (body : List ℕ) → is_status code ≡ true → 4 + length body ≤ room limit
+    → Proper limit (reply service (general code) body)
 unfolding reply
 proper_reply limit service code body k h = record { headed = headed_reply service (general code) body k; fits = omega arith }
 

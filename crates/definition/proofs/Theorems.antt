@@ -82,7 +82,8 @@ unfolding reply
 store_honest service (store at bytes) memory n = absurd (n refl)
 store_honest service (no_store status) memory n = refl
 
-target_honest : (t : Tables) (memory : List ℕ) (service : ℕ) (r : Resolved) (body : List ℕ) (limit : ℕ) → Honest memory (on_target t memory service r body limit)
+target_honest : (t : Tables) (memory : List ℕ) (service : ℕ) (r : Resolved) (body : List ℕ) (limit : ℕ)
+    → Honest memory (on_target t memory service r body limit)
 target_honest t memory service (turned status) body limit = λ n. refl
 target_honest t memory service (found g) body limit =
     pick_all (Honest memory) (is_read service) (λ n. refl)

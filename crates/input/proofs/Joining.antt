@@ -58,9 +58,6 @@ module _ (s : List ℕ) where
   is_one : (at : ℕ) → Some at ≡ found_masks s → (is_masked_write s ≡ true) × (at ≡ mask_start s)
   is_one at e = by_test (is_masked_write s) (λ t. (t, cc (rw t at e))) (λ t. cc (rw t at e))
 
-  pub is_it : (r : Option ℕ) → r ≡ found_masks s → is_some r ≡ is_masked_write s
-  is_it r e = by_test (is_masked_write s) (λ t. rw (t, rw t at e) refl) (λ t. rw (t, rw t at e) refl)
-
 module _ (row next : List ℕ) where
   pub not-joined : joins row next ≡ false → (false ≡ joins row next) × (row ≡ pick (joins row next) (joined_request row next) row)
   not-joined e = rw e (refl, refl)

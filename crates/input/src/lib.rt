@@ -2,6 +2,7 @@
 // and the requests of masked writes in a row joined into one.
 #![tactic(auto)]
 
+pub mod bytes;
 pub mod clicks;
 pub mod hex;
 pub mod image_rows;

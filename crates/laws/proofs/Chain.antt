@@ -121,9 +121,6 @@ both_kept s t u r q e p = both_yes_by s t u r q (not-false s e) p
 pub both-refused : (s t u : Bool) → s ≡ t → not s ≡ true → false ≡ both t u
 both-refused s t u q e = both_no_by s t u q (not-true s e)
 
-pub kept_le : (s : Bool) (a n : ℕ) → s ≡ leb a n → not s ≡ false → a ≤ n
-kept_le s a n q e = leb-true a n (sym q ∙ not-false s e)
-
 pub le_by : (k x n : ℕ) → k ≡ x → k ≤ n → leb x n ≡ true
 le_by k x n q h = le-leb x n (omega arith)
 

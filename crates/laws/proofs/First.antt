@@ -1,12 +1,11 @@
 -- The first of some numbers of which there is something to say: where there is none, where there is one, and the loop that looks for it, whose invariant
 -- is `first_of f i (e - i) ≡ whole`. Assumes nothing.
-use mathlib.Core.Path.{◌≡◌, refl, sym, ◌∙◌, ap}
+use mathlib.Core.Path.{◌≡◌, refl, ◌∙◌, ap}
 use mathlib.Core.Bool.{Bool, true, false}
 use mathlib.Core.List.{List}
 use Rattle.std.specs.Prelude.{Option, None, Some}
-use Prim.Native.Nat.{ℕ, zero, suc, ◌+◌, ◌-◌, ◌<◌, ◌≤◌}
+use Prim.Native.Nat.{ℕ, zero, suc, ◌+◌, ◌<◌, ◌≤◌}
 use native.Mathlib.Omega.{arith}
-use native.Mathlib.Numerals.{add-one}
 use lib.Dec.{eqb}
 use lib.ListN.{length, get_or}
 use borrow.Author.Tests.{eqb-true, eqb-false}
@@ -83,18 +82,3 @@ first_every g d xs =
     (λ e. ap is_none (first_none _ 0 (length xs) (λ k h l. none_is _ (every_at (λ x. is_none (g x)) d xs k e (omega arith)))))
 
 -- ---- the loop: nothing to say of the numbers before i
-
-module _ {A : Type 0} (f : ℕ → Option A) (i e : ℕ) (whole : Option A) (here : first_of f i (e - i) ≡ whole) where
-  open_here : i < e → or_else (f i) (first_of f (suc i) (e - suc i)) ≡ whole
-  unfolding first_of
-  open_here h = let z : e - i ≡ suc (e - suc i) = omega arith in sym (ap (first_of f i) z) ∙ here
-
-  pub first_next : {o : Option A} {j : ℕ} → i < e → o ≡ f i → o ≡ None → j ≡ i + 1 → first_of f j (e - j) ≡ whole
-  first_next h q n t = rw (t, add-one) (rw (sym q ∙ n) at (open_here h))
-
-  pub first_hit : {o : Option A} {a : A} → i < e → o ≡ f i → o ≡ Some a → Some a ≡ whole
-  first_hit h q n = rw (sym q ∙ n) at (open_here h)
-
-  pub first_end : e ≤ i → None ≡ whole
-  unfolding first_of
-  first_end h = let z : e - i ≡ 0 = omega arith in sym (ap (first_of f i) z) ∙ here

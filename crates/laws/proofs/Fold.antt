@@ -1,7 +1,7 @@
 -- A loop down an index with the invariant `s ≡ fold f z i (drop i xs)`, and a loop up with `run f s i (drop i xs) ≡ run f z 0 xs`.
 -- Assumes nothing.
-use mathlib.Core.Path.{◌≡◌, ◌∙◌, refl, ap}
-use mathlib.Core.List.{List, [], ◌∷◌}
+use mathlib.Core.Path.{◌≡◌}
+use mathlib.Core.List.{List}
 use Prim.Native.Nat.{ℕ, suc, ◌+◌, ◌-◌, ◌<◌, ◌≤◌}
 use native.Mathlib.Numerals.{add-one}
 use native.Mathlib.Omega.{arith}
@@ -39,10 +39,3 @@ module _ {A S : Type 0} (f : ℕ → A → S → S) (z : S) (d : A) (i : ℕ) (x
   run_end s here h = rw (drop_of_length-le xs h) at here
 
 pub ruleset folds = (fold_start, fold_back, fold_done, run_next, run_end)
-
--- a function that goes through each step goes through the fold
-pub fold-map : {A S T : Type 0} (h : S → T) (f : ℕ → A → S → S) (g : ℕ → A → T → T) (z : S) → ((i : ℕ) (x : A) (s : S) → h (f i x s) ≡ g i x (h s))
-    → (i : ℕ) (xs : List A) → h (fold f z i xs) ≡ fold g (h z) i xs
-unfolding fold
-fold-map h f g z e i [] = refl
-fold-map h f g z e i (x ∷ xs) = e i x (fold f z (suc i) xs) ∙ ap (g i x) (fold-map h f g z e (suc i) xs)

@@ -1,7 +1,7 @@
 pub mod Chain
-pub mod Scan
 pub mod Zip
 pub mod First
+pub mod Mapped
 pub mod Fold
 pub mod Table
 pub mod Items
@@ -12,5 +12,4 @@ pub mod Parts
 pub mod Sorted
 pub mod Tests
 pub mod Least
-pub mod Loops
 pub mod Chains

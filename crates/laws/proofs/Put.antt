@@ -5,9 +5,9 @@ use mathlib.Core.List.{List, [], ◌∷◌, ◌++◌, append_assoc, append-nil}
 use Prim.Native.Nat.{ℕ, zero, suc, ◌+◌, ◌-◌, ◌≤◌, ◌<◌}
 use native.Mathlib.Omega.{arith}
 use native.Mathlib.Numerals.{add-one}
-use native.Mathlib.Nat.{add_assoc, add-zero, sub_self, zero-add}
-use lib.ListN.{length, take, drop, set, replicate, length-append, length-drop, length-replicate, take-append-drop, drop_of_length-le, replicate-append-replicate}
-use lib.Seq.{take_at, drop_at, drop-append-add, drop-drop, length-take-le, set_split, append_snoc, take_all, take-take, take-nil, drop-cons, set_at, paste}
+use native.Mathlib.Nat.{add_assoc, add-zero, zero-add}
+use lib.ListN.{length, take, drop, set, replicate, length-append, length-drop, length-replicate, take-append-drop}
+use lib.Seq.{take_at, drop_at, drop-append-add, drop-drop, length-take-le, set_split, append_snoc, take-take, take-nil}
 use borrow.Rule.Slice.PartMut.{put_mid}
 use Rattle.laws.specs.Put.{put, laid, zeroed, KeptFrom}
 
@@ -79,11 +79,6 @@ put_part xs a n h =
     ∙ ap (λ (l : List ℕ). take a xs ++ l) (take-append-drop n (drop a xs))
     ∙ take-append-drop a xs
 
--- a write of the whole list
-pub put_all : (xs ys : List ℕ) → length ys ≡ length xs → put xs 0 ys ≡ ys
-unfolding put
-put_all xs ys e = simp (zero-add, drop_of_length-le xs {i = length ys} (omega arith)) (append-nil ys)
-
 pub put-none : (xs : List ℕ) (at : ℕ) → put xs at [] ≡ xs
 unfolding put
 put-none xs at = simp (add-zero, append-nil) (take-append-drop at xs)
@@ -132,24 +127,6 @@ kept_less m n a b h k =
     (rw (e, ← drop-drop (n - m) m b, ← drop-drop (n - m) m a, k.0) refl, k.1)
 
 -- ---- the turns of the loops
-
-pub paste-put : (xs : List ℕ) (at : ℕ) (ys : List ℕ) (n : ℕ) → n ≡ length ys → paste xs at ys n ≡ put xs at ys
-unfolding put
-paste-put xs at ys n e = rw (e, take_all (length ys) ys (omega arith))
-
-pub zeroed-none : (at : ℕ) (xs : List ℕ) → xs ≡ zeroed at at xs
-unfolding zeroed
-zeroed-none at xs = sym (rw sub_self (take-append-drop at xs))
-
-pub zeroed_more : (at j : ℕ) (xs : List ℕ) → at ≤ j → j < length xs → set (zeroed at j xs) j 0 ≡ zeroed at (j + 1) xs
-unfolding zeroed
-zeroed_more at j xs h k =
-    let p = take at xs ++ replicate (j - at) 0 in
-    let e : length p ≡ j = simp (length-append, length-replicate, length-take-le at xs (omega arith)) (omega arith) in
-    let n : j - at + 1 ≡ j + 1 - at = omega arith in
-    ap (λ (l : List ℕ). set l j 0) (sym (append_assoc (take at xs) (replicate (j - at) 0) (drop j xs)) ∙ ap (λ (l : List ℕ). p ++ l) (drop-cons xs j 0 k))
-    ∙ set_at p _ _ 0 j e
-    ∙ sym (rw (← n, ← (replicate-append-replicate {A = ℕ} (j - at) 1 0), add-one j) (simp append_assoc))
 
 -- ---- the same laws as a proof of a function cites them: each write is an equation, and the positions are whatever the code has
 

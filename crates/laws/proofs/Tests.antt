@@ -168,7 +168,8 @@ module _ {A : Type 0} (p : A → Bool) (d : A) (xs : List A) (k n : ℕ) where
   every_part_at j e h l =
       let q : k + (j - k) ≡ j = omega arith in
       let i : j - k < n = omega arith in
-      rw (get_or-take n (drop k xs) (j - k) d i, get_or-drop, q) at (every_at p d (take n (drop k xs)) (j - k) e (simp (length-take, length-drop) (omega arith)))
+      rw (get_or-take n (drop k xs) (j - k) d i, get_or-drop, q) at (every_at p d (take n (drop k xs)) (j - k) e
+      (simp (length-take, length-drop) (omega arith)))
 
   pub every_part_by : ((j : ℕ) → k ≤ j → j < min (k + n) (length xs) → p (get_or xs j d) ≡ true) → every p (take n (drop k xs)) ≡ true
   every_part_by f =

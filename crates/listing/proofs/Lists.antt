@@ -5,6 +5,7 @@ use Rattle.std.proofs.Common.{◌∙◌, add-one, arith, length-append, lt-ltb, 
 use Rattle.std.proofs.lemmas.List.{get_or-take, get_or-drop, drop-take, length-map}
 use Rattle.std.proofs.lemmas.Nat.{mul-le}
 use Rattle.std.specs.Prelude.{None, Some}
+use Rattle.std.specs.Int.{from_le_bytes, w16}
 use Rattle.std.specs.Simd.{first_chunks}
 use lib.ListN.{drop_of_length-le}
 use lib.Seq.{drop-cons}
@@ -16,18 +17,6 @@ use Rattle.definition.specs.Bytes.{u16_at, numbers, counted}
 use Rattle.definition.specs.Symbols.{is_listed}
 use Rattle.cip.specs.Writes.{Written}
 use Rattle.listing.specs.Numbers.{word}
-
--- ---- the numbers of a list
-
-pub u16_drop : (s : List ℕ) (a k j : ℕ) → j ≡ a + k → u16_at (drop a s) k ≡ u16_at s j
-u16_drop s a k j e =
-    let d : a + (k + 1) ≡ j + 1 = omega arith in
-    rw (get_or-drop, get_or-drop, d, ← e)
-
-pub numbers_long : (n : ℕ) (s : List ℕ) → length (numbers n s) ≡ n
-unfolding numbers
-numbers_long zero s = refl
-numbers_long (suc n) s = ap suc (numbers_long n (drop 2 s))
 
 -- ---- a list's count and its pairs of bytes
 
@@ -68,6 +57,10 @@ module _ (body : List ℕ) where
         let k : length bytes / 2 ≡ n = omega arith in
         rw (← count, le-ltb (length body) (2 + 2 * n) h, p, k, b, numbers_pairs n (take (2 * n) (drop 2 body)), numbers_take n (drop 2 body))
 
+-- as the library reads two bytes
+as_word : (p : List ℕ) → from_le_bytes w16 p ≡ word p
+as_word p = omega arith
+
 -- ---- what is written of a list's numbers, where each number a adds f a
 
 pub record Adds (f : ℕ → List ℕ) (g : List ℕ → List ℕ) : Type 0 where
@@ -85,9 +78,10 @@ module _ (f : ℕ → List ℕ) (g : List ℕ → List ℕ) (adds : Adds f g) wh
     abbrev pub left : ℕ → List ℕ
     left i = g (map word (drop i pairs))
 
-    pub left_next : (i a : ℕ) → i < length pairs → a ≡ word (get_or pairs i []) → left i ≡ f a ++ left (i + 1)
+    pub left_next : (i a : ℕ) → i < length pairs → a ≡ from_le_bytes w16 (get_or pairs i []) → left i ≡ f a ++ left (i + 1)
     left_next i a h e =
-        ap (λ (l : List (List ℕ)). g (map word l)) (drop-cons pairs i [] h) ∙ adds.one (word (get_or pairs i [])) _ ∙ rw (e, add-one i)
+        ap (λ (l : List (List ℕ)). g (map word l)) (drop-cons pairs i [] h) ∙ adds.one (word (get_or pairs i [])) _
+        ∙ rw (e ∙ as_word (get_or pairs i []), add-one i)
 
     pub left_end : (i : ℕ) → length pairs ≤ i → left i ≡ []
     left_end i h = rw (drop_of_length-le pairs h) adds.none
@@ -101,7 +95,8 @@ module _ (f : ℕ → List ℕ) (g : List ℕ → List ℕ) (adds : Adds f g) wh
     abbrev pub Sums : (b i used : ℕ) → Type 0
     Sums b i used = used + length (left i) ≡ b + length (left 0)
 
-    pub sum_next : (b i used a k : ℕ) → Sums b i used → i < length pairs → a ≡ word (get_or pairs i []) → k ≡ length (f a) → Sums b (i + 1) (used + k)
+    pub sum_next : (b i used a k : ℕ) → Sums b i used → i < length pairs → a ≡ from_le_bytes w16 (get_or pairs i [])
+        → k ≡ length (f a) → Sums b (i + 1) (used + k)
     sum_next b i used a k here h e q =
         let n : length (left i) ≡ length (f a) + length (left (i + 1)) = rw (left_next i a h e) (length-append (f a) (left (i + 1))) in
         omega arith
@@ -115,8 +110,8 @@ module _ (f : ℕ → List ℕ) (g : List ℕ → List ℕ) (adds : Adds f g) wh
     abbrev pub Puts : (at : ℕ) (start : List ℕ) (i used : ℕ) (old : List ℕ) → Type 0
     Puts at start i used old = Sums at i used × (put old used (left i) ≡ put start at (left 0))
 
-    module _ (at i used a : ℕ) (start old : List ℕ) (here : Puts at start i used old) (inside : i < length pairs) (number : a ≡ word (get_or pairs i []))
-        (fits : at + length (left 0) ≤ length old) where
+    module _ (at i used a : ℕ) (start old : List ℕ) (here : Puts at start i used old) (inside : i < length pairs)
+        (number : a ≡ from_le_bytes w16 (get_or pairs i [])) (fits : at + length (left 0) ≤ length old) where
       pub put_fits : used + length (f a) ≤ length old
       put_fits = omega (arith, sum_next at i used a (length (f a)) here.0 inside number refl)
 

@@ -66,13 +66,15 @@ module _ (t : Tables) (scope bound : ℕ) where
 
     module _ (attributes : List ℕ) (limit used : ℕ) (old : List ℕ) where
       pub tag_step : (f : Next) (r : Listed) (d : Defined) (s : Step) (new : List ℕ) → Found (Some f) → f ≡ Tag r
-          → d ≡ tag_symbol t (get_or t.tags r.place []) → EntryStep (entry_of attributes d) limit used old s new → Stepped set scope attributes limit used bound old s new
+          → d ≡ tag_symbol t (get_or t.tags r.place []) → EntryStep (entry_of attributes d) limit used old s new
+          → Stepped set scope attributes limit used bound old s new
       unfolding tag_symbol
       tag_step f r d s new q e m x =
           tag_stepped set scope bound attributes limit used old r d s new (due_of attributes (Some (Tag r)) (ap Some (sym e) ∙ q)) m x
 
       pub other_step : (f : Next) (r : Listed) (d : Defined) (s : Step) (new : List ℕ) → Found (Some f) → f ≡ Other r
-          → d ≡ other_symbol t (get_or t.others r.place []) → EntryStep (entry_of attributes d) limit used old s new → Stepped set scope attributes limit used bound old s new
+          → d ≡ other_symbol t (get_or t.others r.place []) → EntryStep (entry_of attributes d) limit used old s new
+          → Stepped set scope attributes limit used bound old s new
       unfolding other_symbol
       other_step f r d s new q e m x =
           other_stepped set scope bound attributes limit used old r d s new (due_of attributes (Some (Other r)) (ap Some (sym e) ∙ q)) m x

@@ -20,7 +20,7 @@ use Rattle.path.specs.Paths.{segment_of, ObjectFound, ObjectAt}
 use Rattle.path.specs.declared.Segment.{Segment}
 use Rattle.path.specs.declared.Segment.TheVariants.{Port, Class, Instance, Element, Attribute, Symbol}
 use Rattle.path.specs.declared.Object.{Object}
-use Rattle.path.specs.declared.Request.{Request}
+use Rattle.path.specs.declared.request.Request.{Request}
 use Rattle.path.proofs.Segments.{segments_end, segments_rest, no_head, first_at, none_at}
 use Rattle.model.specs.Tables.{SomeValid, WhereValid}
 use Rattle.model.proofs.Lent.{some-valid}

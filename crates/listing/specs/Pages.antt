@@ -6,7 +6,7 @@ use Rattle.definition.specs.Request.{object_of, symbol_instance}
 use Rattle.definition.specs.Tables.{Tables}
 use Rattle.definition.specs.Symbols.{Start as DefinedStart, start_in, page_start, list_symbols}
 use Rattle.cip.specs.Writes.{Laid}
-use Rattle.path.specs.declared.Request.{Request}
+use Rattle.path.specs.declared.request.Request.{Request}
 use Rattle.model.specs.Tables.{Whatever, WhereValid, for_scope, for_list}
 use Rattle.listing.specs.declared.pages.Start.{Start}
 

@@ -11,12 +11,12 @@ ghost use Rattle.model.specs.Tables.{tables_of};
 ghost use Rattle.listing.specs.Numbers.{numbers_in};
 ghost use Rattle.listing.specs.Objects.{bytes_of, object_value};
 
-use crate::numbers::{self, Numbers};
+use crate::numbers::Numbers;
 use crate::symbols;
 use crate::values::Value;
 use cip::{Status, replies};
-use model::Tables;
 use model::columns::{STRUCTURE_HANDLE, STRUCTURE_MEMBERS, STRUCTURE_SIZE, TEMPLATE_LENGTH};
+use model::{Tables, lookup};
 
 /// The status word of a known attribute.
 const KNOWN: u16 = 0x0000;
@@ -88,7 +88,7 @@ impl<'a> Object<'a> {
         // A symbol's `entry_size` and `put_attributes` have loops of this shape: a trait for both would be longer than the loops.
         let mut used = 0;
         for pair in numbers.pairs {
-            used += self.entry_size(numbers::word(pair));
+            used += self.entry_size(u16::from_le_bytes(*pair));
         }
         used
     }
@@ -101,7 +101,7 @@ impl<'a> Object<'a> {
     {
         let mut used = at;
         for pair in numbers.pairs {
-            used += self.put_entry(numbers::word(pair), buf, used);
+            used += self.put_entry(u16::from_le_bytes(*pair), buf, used);
         }
         used
     }
@@ -187,11 +187,11 @@ pub fn symbol_attributes(
     requires { room limit ≤ length buf.old }
     ensures { Laid limit (capped service limit (symbol_attributes (tables_of t.now) service id body.now)) buf.old result buf.new }
 {
-    if let Some(i) = t.find_other_id(0, id) {
+    if let Some(i) = lookup::find_id(t.others, 0, id) {
         let name = symbols::other_name(t, &t.others[i]);
         return Object::Symbol(program_of(t, name)).answer(service, body, limit, buf);
     }
-    if t.find_tag_id(0, id).is_none() {
+    if lookup::find_id(t.tags, 0, id).is_none() {
         return replies::refuse(service, Status::PathUnknown, limit, buf);
     }
     Object::Symbol(None).answer(service, body, limit, buf)

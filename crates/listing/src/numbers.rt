@@ -1,7 +1,7 @@
 // A list of attribute numbers: their count in 16 bits, and as many numbers of 16 bits.
 ghost use Rattle.std.specs.Prelude.{◌≡◌, ◌≤◌, length};
 ghost use Rattle.laws.specs.Tests.{every};
-ghost use Rattle.definition.specs.Bytes.{u16_at, counted};
+ghost use Rattle.definition.specs.Bytes.{counted};
 ghost use Rattle.definition.specs.Symbols.{is_listed};
 
 /// The numbers of a list, two bytes each.
@@ -27,15 +27,10 @@ impl<'a> Numbers<'a> {
     pub fn all_listed(&self) -> bool
         ensures { result ≡ every is_listed (numbers_in self.now) }
     {
-        self.pairs.iter().all(|pair| is_listed(word(pair)))
+        self.pairs
+            .iter()
+            .all(|pair| is_listed(u16::from_le_bytes(*pair)))
     }
-}
-
-/// One number of a list.
-pub(crate) fn word(pair: &[u8; 2]) -> u16
-    ensures { result ≡ u16_at pair.now 0 }
-{
-    u16::from_le_bytes(*pair)
 }
 
 /// Whether an attribute is one that a page knows.

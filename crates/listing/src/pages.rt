@@ -53,7 +53,7 @@ pub enum Step {
 impl<'a> Page<'a> {
     /// The walk that a page begins with. IDs often count from 1 in the order of the table, so the first tag is likely to stand there; any other
     /// place would do.
-    fn begin(&self) -> Walk
+    pub fn begin(&self) -> Walk
         ensures used { result.used ≡ 4 }
         ensures bound { result.bound ≡ self.now.start.id }
     {

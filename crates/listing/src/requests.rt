@@ -46,7 +46,7 @@ pub fn page_start(t: &Tables, path: &[u8]) -> Option<Start>
 
 /// Item 13: a page of the symbols of a scope (0x55).
 pub fn list_symbols(t: &Tables, q: Request, limit: usize, buf: &mut [u8]) -> usize
-    requires { (is_some (segments q.path.now) ≡ true) × SomeValid (list_lent (tables_of t.now)) × (room limit ≤ length buf.old) }
+    requires { SomeValid (list_lent (tables_of t.now)) × (room limit ≤ length buf.old) }
     ensures { Lists (tables_of t.now) q.entry limit buf.old result buf.new }
 {
     let Some(start) = page_start(t, q.path) else {

@@ -10,7 +10,7 @@ ghost use Rattle.model.specs.Tables.{tables_of};
 ghost use Rattle.listing.specs.Numbers.{numbers_in};
 ghost use Rattle.listing.specs.Values.{value_bytes};
 
-use crate::numbers::{self, Numbers};
+use crate::numbers::Numbers;
 use crate::values::Value;
 use model::columns::{
     OTHER_ID, OTHER_NAME_LENGTH, OTHER_NAME_START, OTHER_TYPE, TAG_ACCESS, TAG_ALIAS, TAG_ID,
@@ -90,7 +90,7 @@ impl<'a> Symbol<'a> {
     {
         let mut used = 4;
         for pair in numbers.pairs {
-            used += self.value(numbers::word(pair)).size();
+            used += self.value(u16::from_le_bytes(*pair)).size();
         }
         used
     }
@@ -103,7 +103,7 @@ impl<'a> Symbol<'a> {
     {
         let mut used = at;
         for pair in numbers.pairs {
-            used += self.value(numbers::word(pair)).put(buf, used);
+            used += self.value(u16::from_le_bytes(*pair)).put(buf, used);
         }
         used
     }

@@ -21,7 +21,7 @@ use Rattle.definition.specs.Answer.{plain, part_dispatch, is_router, any_request
 use Rattle.definition.proofs.Replies.{Proper, proper_answer}
 use Rattle.cip.specs.Writes.{Laid}
 use Rattle.path.specs.Paths.{Split}
-use Rattle.path.specs.declared.Request.{Request}
+use Rattle.path.specs.declared.request.Request.{Request}
 use Rattle.services.specs.Answers.{Answers, OnPath}
 use Rattle.logix.specs.Answered.{EnvelopeTest}
 use Rattle.logix.proofs.Offsets.{HasParts}
@@ -43,7 +43,8 @@ decodes_by path None e h = clash (cc h)
 decodes_by path (Some l) e h = record { list = l; is = e }
 
 -- a request's data is shorter than its message
-body_by : (service : ℕ) (o : Option (List Segment)) (body : List ℕ) (s : ℕ) (l : List Segment) (b : List ℕ) → with_path service o body ≡ request s l b → body ≡ b
+body_by : (service : ℕ) (o : Option (List Segment)) (body : List ℕ) (s : ℕ) (l : List Segment) (b : List ℕ) → with_path service o body ≡ request s l b
+    → body ≡ b
 body_by service None body s l b e = clash (cc e)
 body_by service (Some path) body s l b e = cc e
 
@@ -108,7 +109,8 @@ module _ (t : Tables) (f : Flags) (memory p : List ℕ) (budget service : ℕ) (
   unfolding answer part_answer part_dispatch request_of
   part_agrees =
       rw not-envelope
-      (by_test (ltb (length p) (2 + 2 * get_or p 1 0)) (λ e. rw e) (λ e. rw e (agree_by (segments (part p 2 (2 * get_or p 1 0))) (drop (2 + 2 * get_or p 1 0) p))))
+      (by_test (ltb (length p) (2 + 2 * get_or p 1 0)) (λ e. rw e) (λ e. rw e (agree_by (segments (part p 2 (2 * get_or p 1 0)))
+      (drop (2 + 2 * get_or p 1 0) p))))
 
   abbrev whole : Proper budget (answer t f memory p budget).reply
   whole = proper_answer t f memory p budget

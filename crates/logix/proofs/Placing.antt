@@ -34,13 +34,6 @@ module _ (src : List ℕ) (n limit used : ℕ) (old : List ℕ) (some_bytes : 3 
   cut_fine : eqb (get_or src 2 0) 0 ≡ eqb (get_or (take n src) 2 0) 0
   cut_fine = rw (get_or-take n src 2 0 (omega arith))
 
-  pub not_copied : limit < used + n → Copied (take n src) limit used old what old
-  not_copied h = record {
-    length_is = sym cut_long;
-    fine_is = cut_fine;
-    buffer_is = rw (lt-leb (used + length (take n src)) limit (omega (arith, cut_long)));
-  }
-
   pub copied : (new : List ℕ) → new ≡ put old used (take n src) → used + n ≤ limit → Copied (take n src) limit used old what new
   copied new e h = record {
     length_is = sym cut_long;
@@ -72,13 +65,7 @@ module _ (bytes : List ℕ) (limit used : ℕ) (old : List ℕ) (r : PartReply) 
 -- ---- an envelope's offsets and its end
 
 module _ (limit used i : ℕ) (old : List ℕ) where
-  pub not-marked : limit < used → old ≡ marked limit used i old
-  not-marked h = rw (lt-leb used limit h)
-
   module _ (new : List ℕ) where
-    pub marked_by : (w : ℕ) → w ≡ (used - 4) % 65536 → new ≡ put old (6 + 2 * i) (le16 w) → used ≤ limit → limit ≤ 65535 → new ≡ marked limit used i old
-    marked_by w e p h s = let q : w ≡ used - 4 = omega arith in rw (le-leb used limit h, ← q) p
-
     pub marked-put : new ≡ marked limit used i old → used ≤ limit → new ≡ put old (6 + 2 * i) (le16 (used - 4))
     marked-put m h = m ∙ rw (le-leb used limit h)
 

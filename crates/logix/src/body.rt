@@ -31,6 +31,7 @@ fn in_order(body: &[u8], count: usize) -> bool
     ensures { result ≡ ascending (2 + 2 * count) (numbers count (drop 2 body.now)) (length body.now) }
 {
     let mut at = 2 + 2 * count;
+    // an index: `mark` reads each offset, here and for a part; over their pairs of bytes there would be a second reading beside it
     for i in 0..count {
         let next = mark(body, count, i);
         if next < at {

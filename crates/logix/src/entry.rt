@@ -6,7 +6,7 @@ ghost use Rattle.definition.specs.Answer.{answer as answer_of};
 ghost use Rattle.definition.specs.Entry.{entry as entry_of};
 ghost use Rattle.model.specs.Tables.{tables_of, flags_of};
 ghost use Rattle.services.specs.Answers.{Answers};
-ghost use Rattle.logix.specs.Entering.{number_of, Enters};
+ghost use Rattle.logix.specs.Entering.{number_of, entered, Enters};
 
 use model::Controller;
 
@@ -16,10 +16,10 @@ const MOST: usize = 65535;
 /// Why a message gets no reply; nothing was changed.
 #[derive(Clone, Copy)]
 pub enum Refusal {
-    RequestTooLong,
-    LimitTooLarge,
-    BufferTooShort,
-    TablesInvalid,
+    RequestTooLong = 1,
+    LimitTooLarge = 2,
+    BufferTooShort = 3,
+    TablesInvalid = 4,
 }
 
 impl Refusal {
@@ -28,12 +28,7 @@ impl Refusal {
         ensures number { result ≡ number_of self }
         ensures small { result ≤ 4 }
     {
-        match self {
-            Refusal::RequestTooLong => 1,
-            Refusal::LimitTooLarge => 2,
-            Refusal::BufferTooShort => 3,
-            Refusal::TablesInvalid => 4,
-        }
+        self as u64
     }
 }
 
@@ -55,6 +50,22 @@ pub fn answer(
     crate::dispatch(c, memory, request, limit, buf)
 }
 
+/// The refusals that are no matter of the request, in their order.
+pub fn enter(c: &Controller, memory: &[u8], limit: usize, buf: &[u8]) -> Result<(), Refusal>
+    ensures { result ≡ entered (tables_of c.now.tables) (length memory.now) limit (length buf.now) }
+{
+    if limit > MOST {
+        return Err(Refusal::LimitTooLarge);
+    }
+    if buf.len() < cip::room_of(limit) {
+        return Err(Refusal::BufferTooShort);
+    }
+    if !tables::valid(&c.tables, memory) {
+        return Err(Refusal::TablesInvalid);
+    }
+    Ok(())
+}
+
 /// Answers any request over any tables, or refuses it and changes nothing.
 pub fn message(
     c: &Controller,
@@ -69,14 +80,6 @@ pub fn message(
     if request.len() > MOST {
         return Err(Refusal::RequestTooLong);
     }
-    if limit > MOST {
-        return Err(Refusal::LimitTooLarge);
-    }
-    if buf.len() < cip::room_of(limit) {
-        return Err(Refusal::BufferTooShort);
-    }
-    if !tables::valid(&c.tables, memory) {
-        return Err(Refusal::TablesInvalid);
-    }
+    enter(c, memory, limit, buf)?;
     Ok(answer(c, memory, request, limit, buf))
 }

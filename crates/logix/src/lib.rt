@@ -69,6 +69,7 @@ fn multi_service(
     let count = parts.count;
     let mut used = parts::OFFSETS + 2 * count;
     let mut fine = true;
+    // by numbers: where a part's offset stands, and how many parts are behind it, is said by its number
     for i in 0..count {
         parts::put_offset(buf, limit, used, i);
         let budget = parts::budget_of(limit, used, count - i - 1);

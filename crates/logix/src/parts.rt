@@ -1,8 +1,6 @@
 // The test for an envelope, and what is written around the replies to its parts.
-ghost use Rattle.std.specs.Prelude.{◌≡◌, true, ◌+◌, ◌-◌, ◌*◌, ◌≤◌, length, get_or};
-ghost use Rattle.laws.specs.Pick.{is_some};
+ghost use Rattle.std.specs.Prelude.{◌≡◌, ◌+◌, ◌-◌, ◌*◌, ◌≤◌, length, get_or};
 ghost use Rattle.definition.specs.Reply.{fail, room, not_supported};
-ghost use Rattle.definition.specs.Segment.{segments};
 ghost use Rattle.definition.specs.Tables.{takes_envelopes};
 ghost use Rattle.definition.specs.Envelope.{envelope_service};
 ghost use Rattle.cip.specs.Statuses.{status_of};
@@ -30,7 +28,6 @@ pub struct PartReply {
 
 /// 0x0A on class 0x02 instance 1.
 pub fn is_envelope(q: &Request) -> bool
-    requires { is_some (segments q.now.path.now) ≡ true }
     ensures { EnvelopeTest q.now.service q.now.path.now result }
 {
     q.service == ENVELOPE

@@ -1,23 +1,22 @@
 -- The type header by its pieces, and the three lengths of a tag as the definition has them.
 -- Assumes nothing.
 use mathlib.Core.Path.{◌≡◌, refl}
-use mathlib.Core.Logic.{◌≢◌}
 use mathlib.Core.Bool.{Bool, true, false}
 use mathlib.Core.List.{List, [], ◌∷◌}
-use Prim.Native.Nat.{ℕ, ◌+◌, ◌-◌, ◌*◌, ◌/◌, ◌%◌, ◌≤◌, ◌<◌}
+use Prim.Native.Nat.{ℕ, ◌+◌, ◌*◌, ◌/◌, ◌%◌, ◌≤◌, ◌<◌}
 use native.Mathlib.Omega.{arith}
-use native.Mathlib.Nat.{add-mul-mod_self_left, add-sub_cancel_left}
+use native.Mathlib.Nat.{add-mul-mod_self_left}
 use lib.Dec.{eqb}
-use lib.ListN.{length, get_or, take, drop, length-drop, drop_of_length-le, get_or-eq_default}
-use lib.Seq.{take_all, take-nil, drop-length, drop-cons}
-use borrow.Author.Tests.{lt-ltb, le-leb, lt-leb, ne_eqb}
+use lib.ListN.{length}
+use lib.Seq.{drop-cons}
+use borrow.Author.Tests.{le-leb, lt-leb, ne_eqb}
 use Rattle.laws.specs.Pick.{pick, is_empty}
 use Rattle.laws.specs.Put.{put}
 use Rattle.laws.proofs.Chain.{by_test}
 use Rattle.laws.proofs.Put.{put_then}
 use Rattle.definition.specs.Bytes.{le16}
 use Rattle.definition.specs.Tables.{Row, field, handle, tag_type, tag_lengths, tag_elements, nonzero}
-use Rattle.definition.specs.Types.{atomic_size, is_atomic, is_dword_array, structure_in, type_header}
+use Rattle.definition.specs.Types.{is_dword_array, structure_in, type_header}
 use Rattle.definition.specs.Symbols.{listed_lengths}
 use Rattle.definition.specs.Resolve.{index_lengths}
 use Rattle.cip.specs.Writes.{Written}

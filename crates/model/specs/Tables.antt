@@ -1,5 +1,5 @@
 -- The tables, the flags and a target as the code has them, in the definition's terms.
-use Rattle.std.specs.Prelude.{◌≡◌, true, List, ℕ, ◌+◌, ◌*◌, ◌≤◌, ◌<◌}
+use Rattle.std.specs.Prelude.{◌≡◌, true, List, ℕ, ◌+◌, ◌*◌, ◌/◌, ◌%◌, ◌≤◌, ◌<◌, eqb}
 use Rattle.definition.specs.Tables.{Tables, Row, Flags as DefinedFlags}
 use Rattle.definition.specs.Types.{size_in}
 use Rattle.definition.specs.Valid.{valid}
@@ -7,6 +7,15 @@ use Rattle.definition.specs.Resolve.{Target as DefinedTarget}
 use Rattle.model.specs.declared.Flags.{Flags}
 use Rattle.model.specs.declared.tables.Tables.{Tables as Lent}
 use Rattle.model.specs.declared.Target.{Target}
+
+-- bit 0 multi-service, 1 instance IDs, 2 AOI locals refused, 3 micro800
+abbrev pub flags_in : ℕ → DefinedFlags
+flags_in word = record {
+  multi_service = eqb (word % 2) 1;
+  instance_ids = eqb (word / 2 % 2) 1;
+  aoi_locals_refused = eqb (word / 4 % 2) 1;
+  micro800 = eqb (word / 8 % 2) 1;
+}
 
 -- the lent slices
 abbrev pub tables_of : Lent → Tables

@@ -52,6 +52,7 @@ pub fn least_in<const N: usize>(rows: &[[u32; N]], scope: u32, bound: u64) -> Op
     ensures { result ≡ least_in scope bound rows.now }
 {
     let mut best = None;
+    // by places: the library's laws say what `rev` of a slice brings, and not of `enumerate`
     for place in (0..rows.len()).rev() {
         best = least_from(place, &rows[place], scope, bound, best);
     }

@@ -1,6 +1,9 @@
 // The data model: types, table rows, lookups, the next symbol by its ID, and what a resolved path aims at.
 #![tactic(auto)]
 
+ghost use Rattle.std.specs.Prelude.{◌≡◌};
+ghost use Rattle.model.specs.Tables.{flags_of, flags_in};
+
 pub mod columns;
 pub mod least;
 pub mod lookup;
@@ -19,6 +22,20 @@ pub struct Flags {
     pub micro800: bool,
 }
 
+impl From<u32> for Flags {
+    ghost from_gives = { λ word flags. flags_of flags ≡ flags_in word };
+
+    /// Flags by their bits, the least first.
+    fn from(word: u32) -> Flags {
+        Flags {
+            multi_service: word % 2 == 1,
+            instance_ids: word / 2 % 2 == 1,
+            aoi_locals_refused: word / 4 % 2 == 1,
+            micro800: word / 8 % 2 == 1,
+        }
+    }
+}
+
 /// A controller: its tables, and what it takes.
 #[derive(Clone, Copy)]
 pub struct Controller<'a> {
@@ -35,6 +52,7 @@ pub struct Target {
     pub ty: u32,
     pub size: usize,
     pub count: usize,
+    // a number, 8 for none, as a member's row has it: with an `Option` each contract would say that a bit it holds is below 8
     pub bit: u32,
     pub access: u32,
 }

@@ -17,7 +17,7 @@ pub fn part_of<T>(store: &[T], start: u32, n: u32) -> &[T]
     rest.get(..n as usize).unwrap_or(rest)
 }
 
-fn program_is(row: &[u32; 2], names: &[u8], name: &[u8]) -> bool
+pub fn program_is(row: &[u32; 2], names: &[u8], name: &[u8]) -> bool
     ensures { result ≡ program_is names.now name.now row.now }
 {
     path::same_name(
@@ -26,13 +26,7 @@ fn program_is(row: &[u32; 2], names: &[u8], name: &[u8]) -> bool
     )
 }
 
-pub fn find_program(programs: &[[u32; 2]], names: &[u8], name: &[u8]) -> Option<usize>
-    ensures { result ≡ program_in programs.now names.now name.now }
-{
-    programs.iter().position(|row| program_is(row, names, name))
-}
-
-fn tag_is(row: &[u32; 12], tag_names: &[u8], scope: u32, name: &[u8]) -> bool
+pub fn tag_is(row: &[u32; 12], tag_names: &[u8], scope: u32, name: &[u8]) -> bool
     ensures { result ≡ tag_is tag_names.now scope name.now row.now }
 {
     row[TAG_SCOPE] == scope
@@ -42,15 +36,8 @@ fn tag_is(row: &[u32; 12], tag_names: &[u8], scope: u32, name: &[u8]) -> bool
         )
 }
 
-pub fn find_tag(tags: &[[u32; 12]], tag_names: &[u8], scope: u32, name: &[u8]) -> Option<usize>
-    ensures { result ≡ tag_in tags.now tag_names.now scope name.now }
-{
-    tags.iter()
-        .position(|row| tag_is(row, tag_names, scope, name))
-}
-
-/// A tag's or another symbol's row.
-fn id_is<const N: usize>(row: &[u32; N], scope: u32, id: u32) -> bool
+/// A tag's or another symbol's row. Here and wherever rows of any width are taken a clause bounds the width: a const parameter has no bound in its type.
+pub fn id_is<const N: usize>(row: &[u32; N], scope: u32, id: u32) -> bool
     requires { 3 < N }
     ensures { result ≡ id_is scope id row.now }
 {
@@ -86,16 +73,10 @@ pub fn find_member(members: &[[u32; 9]], names: &[u8], name: &[u8]) -> Option<us
     members.iter().position(|row| member_is(row, names, name))
 }
 
-fn template_is(row: &[u32; 10], id: u32) -> bool
+pub fn template_is(row: &[u32; 10], id: u32) -> bool
     ensures { result ≡ template_is id row.now }
 {
     row[STRUCTURE_TEMPLATE] == id
-}
-
-pub fn find_template(structures: &[[u32; 10]], id: u32) -> Option<usize>
-    ensures { result ≡ template_in structures.now id }
-{
-    structures.iter().position(|row| template_is(row, id))
 }
 
 fn is_local(row: &[u32; 9]) -> bool

@@ -1,6 +1,6 @@
 // The tables that a caller lends: what every answer is made from.
 ghost use Rattle.std.specs.Prelude.{◌≡◌, ◌≤◌};
-ghost use Rattle.definition.specs.Lookup.{program_named, tag_named, tag_with_id, other_with_id, structure_with_template};
+ghost use Rattle.definition.specs.Lookup.{program_named, tag_named, structure_with_template};
 ghost use Rattle.definition.specs.Tables.{members_in};
 ghost use Rattle.definition.specs.Types.{structure_in, size_in};
 ghost use Rattle.model.specs.Tables.{tables_of};
@@ -28,31 +28,25 @@ impl<'a> Tables<'a> {
     pub fn find_program(&self, name: &[u8]) -> Option<usize>
         ensures { result ≡ program_named (tables_of self.now) name.now }
     {
-        lookup::find_program(self.programs, self.names, name)
+        self.programs
+            .iter()
+            .position(|row| lookup::program_is(row, self.names, name))
     }
 
     pub fn find_tag(&self, scope: u32, name: &[u8]) -> Option<usize>
         ensures { result ≡ tag_named (tables_of self.now) scope name.now }
     {
-        lookup::find_tag(self.tags, self.tag_names, scope, name)
-    }
-
-    pub fn find_tag_id(&self, scope: u32, id: u32) -> Option<usize>
-        ensures { result ≡ tag_with_id (tables_of self.now) scope id }
-    {
-        lookup::find_id(self.tags, scope, id)
-    }
-
-    pub fn find_other_id(&self, scope: u32, id: u32) -> Option<usize>
-        ensures { result ≡ other_with_id (tables_of self.now) scope id }
-    {
-        lookup::find_id(self.others, scope, id)
+        self.tags
+            .iter()
+            .position(|row| lookup::tag_is(row, self.tag_names, scope, name))
     }
 
     pub fn find_template(&self, id: u32) -> Option<usize>
         ensures { result ≡ structure_with_template (tables_of self.now) id }
     {
-        lookup::find_template(self.structures, id)
+        self.structures
+            .iter()
+            .position(|row| lookup::template_is(row, id))
     }
 
     /// The members of a structure type.
@@ -60,10 +54,8 @@ impl<'a> Tables<'a> {
         requires { 256 ≤ ty }
         ensures { result.now ≡ members_in self.now.members.now (structure_in self.now.structures.now ty) }
     {
-        let (first, count) = match self.structures.get(types::index_of(ty)) {
-            Some(row) => (row[STRUCTURE_FIRST_MEMBER], row[STRUCTURE_MEMBERS]),
-            None => (0, 0),
-        };
+        let first = types::structure_word(self.structures, ty, STRUCTURE_FIRST_MEMBER);
+        let count = types::structure_word(self.structures, ty, STRUCTURE_MEMBERS);
         lookup::part_of(self.members, first, count)
     }
 

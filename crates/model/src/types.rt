@@ -1,6 +1,6 @@
 // Atomic codes, type words, element sizes and type headers.
-ghost use Rattle.std.specs.Prelude.{◌≡◌, ◌+◌, ◌-◌, ◌≤◌, length};
-ghost use Rattle.definition.specs.Tables.{handle, template_id};
+ghost use Rattle.std.specs.Prelude.{◌≡◌, ◌+◌, ◌-◌, ◌<◌, ◌≤◌, length};
+ghost use Rattle.definition.specs.Tables.{field};
 ghost use Rattle.definition.specs.Types.{atomic_size, has_bits, is_structure, structure_in, size_in, type_header, symbol_type};
 ghost use Rattle.cip.specs.Writes.{Written};
 
@@ -47,6 +47,14 @@ pub fn index_of(ty: u32) -> usize
     ty.saturating_sub(FIRST_STRUCTURE) as usize
 }
 
+/// A column of a structure type's row.
+pub fn structure_word(structures: &[[u32; 10]], ty: u32, column: usize) -> u32
+    requires { column < 10 }
+    ensures { result ≡ field column (structure_in structures.now ty) }
+{
+    structures.get(index_of(ty)).map_or(0, |row| row[column])
+}
+
 /// The bytes of one element of a type.
 #[tactic(auto, using(laws::proofs::Chain::chain), unfolding(definition::specs::Types::size_in))]
 pub fn element_size(structures: &[[u32; 10]], ty: u32) -> u32
@@ -55,27 +63,7 @@ pub fn element_size(structures: &[[u32; 10]], ty: u32) -> u32
     if ty < FIRST_STRUCTURE {
         return atomic_size(ty);
     }
-    structures
-        .get(index_of(ty))
-        .map_or(0, |row| row[STRUCTURE_SIZE])
-}
-
-/// The handle of a structure type.
-pub fn structure_handle(structures: &[[u32; 10]], ty: u32) -> u32
-    ensures { result ≡ handle (structure_in structures.now ty) }
-{
-    structures
-        .get(index_of(ty))
-        .map_or(0, |row| row[STRUCTURE_HANDLE])
-}
-
-/// The template ID of a structure type.
-fn structure_template(structures: &[[u32; 10]], ty: u32) -> u32
-    ensures { result ≡ template_id (structure_in structures.now ty) }
-{
-    structures
-        .get(index_of(ty))
-        .map_or(0, |row| row[STRUCTURE_TEMPLATE])
+    structure_word(structures, ty, STRUCTURE_SIZE)
 }
 
 /// The type header at a position; returns its length, 2 or 4.
@@ -92,7 +80,7 @@ pub fn put_type_header(buf: &mut [u8], at: usize, structures: &[[u32; 10]], ty: 
     cip::put_u16(
         buf,
         at + 2,
-        cip::low16(structure_handle(structures, ty) as usize),
+        cip::low16(structure_word(structures, ty, STRUCTURE_HANDLE) as usize),
     );
     4
 }
@@ -106,5 +94,5 @@ pub fn symbol_type(structures: &[[u32; 10]], ty: u32, lengths: u32) -> u32
     if ty < FIRST_STRUCTURE {
         return ty | (lengths * 0x2000);
     }
-    (structure_template(structures, ty) | 0x8000) | (lengths * 0x2000)
+    (structure_word(structures, ty, STRUCTURE_TEMPLATE) | 0x8000) | (lengths * 0x2000)
 }

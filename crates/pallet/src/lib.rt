@@ -40,10 +40,27 @@ pub const TEMPLATES: [u8; 8] = [1, 2, 3, 4, 5, 6, 7, 8];
 pub const MEMORY: [u8; 48] =
     *b"\x2A\x00\x00\x00\x01\x02\x03\x04\x05\x06\x07\x08\x09\x0A\x0B\x0C\x0D\x0E\x0F\x10\x11\x12\x13\x14\x15\x16\x17\x18\x19\x1A\x1B\x1C\x1D\x1E\x1F\x20\x21\x22\x23\x24\x25\x26\x27\x28\x04\x00\x00\x00";
 
+const TABLES: Tables = Tables {
+    structures: &STRUCTURES,
+    members: &MEMBERS,
+    programs: &[],
+    tags: &TAGS,
+    others: &[],
+    names: &NAMES,
+    tag_names: &TAG_NAMES,
+    templates: &TEMPLATES,
+};
+
+/// The bench's controller.
+pub const CONTROLLER: Controller = Controller {
+    tables: TABLES,
+    flags: FLAGS,
+};
+
 /// What a message comes to, with tags that a caller lends in the place of the bench's.
-pub fn with_tags(
-    tags: &[[u32; 12]],
-    tag_names: &[u8],
+pub fn with_tags<'a>(
+    tags: &'a [[u32; 12]],
+    tag_names: &'a [u8],
     memory: &mut [u8],
     request: &[u8],
     limit: usize,
@@ -54,14 +71,9 @@ pub fn with_tags(
 {
     let c = Controller {
         tables: Tables {
-            structures: &STRUCTURES,
-            members: &MEMBERS,
-            programs: &[],
             tags,
-            others: &[],
-            names: &NAMES,
             tag_names,
-            templates: &TEMPLATES,
+            ..TABLES
         },
         flags: FLAGS,
     };

@@ -1,7 +1,6 @@
 -- A symbol's name stands two bytes behind its segment's start, in the path: what the definition's segment at a position says of it.
 -- Assumes nothing.
 use mathlib.Core.Path.{◌≡◌, refl, subst, sym}
-use mathlib.Core.Bool.{Bool, true, false}
 use mathlib.Core.List.{List}
 use Rattle.std.specs.Prelude.{Option, None, Some}
 use Prim.Native.Nat.{ℕ, ◌+◌, ◌≤◌, ◌%◌}
@@ -13,7 +12,7 @@ use Rattle.laws.proofs.Chain.{pick_all}
 use Rattle.laws.proofs.Put.{length_part}
 use Rattle.laws.proofs.Tests.{pick_by}
 use Rattle.definition.specs.Bytes.{part}
-use Rattle.definition.specs.Segment.{Segment as Defined, port, class, instance, element, attribute, symbol, Kind, port_kind, class_kind, instance_kind, element_kind, attribute_kind, symbol_kind, no_kind, form, kind_of, Step, step, cut, within, logical_at, sized_at, link_at, port_at, by_kind, segment_at}
+use Rattle.definition.specs.Segment.{Segment as Defined, port, class, instance, element, attribute, symbol, Kind, port_kind, class_kind, instance_kind, element_kind, attribute_kind, symbol_kind, no_kind, form, kind_of, Step, step, cut, logical_at, sized_at, link_at, port_at, by_kind, segment_at}
 use Rattle.path.specs.Paths.{segment_of, step_of, NameStands, NameInside, Decoded}
 use Rattle.path.specs.declared.Segment.{Segment}
 use Rattle.path.specs.declared.Segment.TheVariants.{Port, Class, Instance, Element, Attribute, Symbol}

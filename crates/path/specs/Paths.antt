@@ -1,7 +1,7 @@
 -- What the code's answers mean in the definition's terms.
-use Rattle.std.specs.Prelude.{◌≡◌, ◌≤◌, ◌+◌, Bool, true, false, List, ◌∷◌, ℕ, length, Option, None, Some}
+use Rattle.std.specs.Prelude.{◌≡◌, ◌≤◌, ◌+◌, ◌*◌, Bool, true, false, List, ◌∷◌, ℕ, length, get_or, Option, None, Some, eqb, leb}
 use Rattle.std.specs.Borrow.{Bor}
-use Rattle.laws.specs.Pick.{pick, is_some}
+use Rattle.laws.specs.Pick.{pick, both, is_some}
 use Rattle.definition.specs.Bytes.{part}
 use Rattle.definition.specs.Segment.{Segment as Defined, port, class, instance, element, attribute, symbol, Step as DefinedStep, step, cut, within, logical_at, sized_at, segment_at, segments_from, segments}
 use Rattle.definition.specs.Request.{malformed, with_path, request_of, no_object, object_of, is_tag_path}
@@ -9,7 +9,7 @@ use Rattle.path.specs.declared.Segment.{Segment}
 use Rattle.path.specs.declared.Segment.TheVariants.{Port, Class, Instance, Element, Attribute, Symbol}
 use Rattle.path.specs.declared.Step.{Step}
 use Rattle.path.specs.declared.Object.{Object}
-use Rattle.path.specs.declared.Request.{Request}
+use Rattle.path.specs.declared.request.Request.{Request}
 
 abbrev pub segment_of : Segment → Defined
 segment_of Port = port
@@ -71,9 +71,10 @@ LinkAt path at sized r = link_step r ≡ link_end path at sized
 
 -- ---- requests
 
--- the request of a message, whose path decodes
+-- the request of a message, whose path decodes: as many words from the third byte on as the second one says
 pub record Split (m : List ℕ) (r : Request) : Type 0 where
   pub is : request_of m ≡ with_path r.service (segments r.path.now) r.body.now
+  pub path_is : r.path.now ≡ part m 2 (2 * get_or m 1 0)
   pub decodes : is_some (segments r.path.now) ≡ true
 
 abbrev pub Splits : List ℕ → Option Request → Type 0
@@ -117,3 +118,9 @@ pub record ObjectFound (path : List ℕ) (at : ℕ) (o : Object) : Type 0 where
 abbrev pub ObjectAt : (path : List ℕ) (at : ℕ) → Option Object → Type 0
 ObjectAt path at (Some o) = ObjectFound path at o
 ObjectAt path at None = (l : List Defined) → segments_from path at ≡ Some l → object_of l ≡ no_object
+
+-- ---- names
+
+-- one of A to Z and the same letter in lower case
+abbrev pub is_upper_of : (x y : ℕ) → Bool
+is_upper_of x y = both (both (leb 0x41 x) (leb x 0x5A)) (eqb (x + 0x20) y)

@@ -4,14 +4,17 @@
 
 ghost use Rattle.std.specs.Prelude.{◌≡◌, true, ◌+◌, ◌≤◌, length};
 ghost use Rattle.laws.specs.Pick.{is_some};
-ghost use Rattle.definition.specs.Names.{lower, same_byte, same_name, is_program_name};
+ghost use Rattle.definition.specs.Names.{same_byte, same_name, is_program_name};
+ghost use Rattle.path.specs.Paths.{is_upper_of};
 ghost use Rattle.definition.specs.Segment.{segment_at, segments_from};
 ghost use Rattle.path.specs.First.{bits_of, logical_of};
 ghost use Rattle.path.specs.Paths.{segment_of, Decoded, ValueAt, NameAt, LinkAt, tag_path_from, instance_in, ObjectAt, Splits};
 
 pub mod reader;
+pub mod request;
 pub mod table;
 
+pub use request::Request;
 use table::{First, Format, Logical};
 
 /// A segment of a path. No service minds a port's number or link, so a port is known by its end alone.
@@ -122,14 +125,6 @@ fn link_end(path: &[u8], at: usize, sized: bool) -> Option<usize>
 
 // ---- requests
 
-/// A request: its service, its path and the data behind it.
-#[derive(Clone, Copy)]
-pub struct Request<'a> {
-    pub service: u8,
-    pub path: &'a [u8],
-    pub body: &'a [u8],
-}
-
 /// A message as a request; none where its path is not there or does not decode.
 pub fn request_of<'a>(message: &'a [u8]) -> Option<Request<'a>>
     ensures { Splits message.now result }
@@ -146,16 +141,18 @@ pub fn request_of<'a>(message: &'a [u8]) -> Option<Request<'a>>
 
 // ---- names
 
-fn lower(b: u8) -> u8
-    ensures { result ≡ lower b }
+/// Whether a byte is one of A to Z, and another the same letter in lower case.
+fn is_upper_of(x: u8, y: u8) -> bool
+    ensures { result ≡ is_upper_of x y }
 {
-    b.to_ascii_lowercase()
+    x.is_ascii_uppercase() && x + 0x20 == y
 }
 
+/// Digits, in which the names of a plant mostly differ, are told apart at once.
 fn same_byte(x: u8, y: u8) -> bool
     ensures { result ≡ same_byte x y }
 {
-    x == y || lower(x) == lower(y)
+    x == y || is_upper_of(x, y) || is_upper_of(y, x)
 }
 
 /// Whether names of one length agree, ignoring the case of A to Z.

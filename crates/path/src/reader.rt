@@ -49,6 +49,7 @@ impl<'a> Reader<'a> {
         Some(bytes[0])
     }
 
+    // Two widths, a line each over `take`: one function for both would hand out bytes that each caller puts together.
     pub fn u16(&mut self) -> Option<u16>
         ensures word { result ≡ word_at self.old.path.now self.old.at }
         ensures behind { Passed self.old 2 self.new }
@@ -81,6 +82,7 @@ pub fn count_segments(path: &[u8]) -> Option<usize>
 {
     let mut r = Reader::new(path);
     let mut count = 0;
+    // no `while let`: a path that ends is told from a segment that is none
     while !r.is_empty() {
         r.segment()?;
         count += 1;

@@ -11,9 +11,6 @@ use Rattle.model.specs.Tables.{Aimed}
 use Rattle.model.specs.declared.Target.{Target}
 
 module _ (structures : List Row) (memory : ℕ) (g : Target) (a : Aimed structures memory g) where
-  pub aimed_first : g.start < memory
-  aimed_first = omega (arith, mul-pos a.some_elements a.some_bytes)
-
   pub aimed_inside : (elements : ℕ) → elements ≤ g.count → g.start + elements * g.size ≤ memory
   aimed_inside elements h = omega (arith, mul-le-mul_right g.size h)
 

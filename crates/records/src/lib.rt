@@ -2,15 +2,15 @@
 // What takes `&[Tag]` or `&mut [Tag]` promises something of the records and of the rows that they mean.
 #![tactic(auto)]
 
-ghost use Rattle.std.specs.Prelude.{◌≡◌, ◌<◌, length, set, IfSome};
+ghost use Rattle.std.specs.Prelude.{◌≡◌, ◌<◌, length, set};
 ghost use Rattle.definition.specs.Lookup.{tag_in, id_in};
-ghost use Rattle.model.specs.Rows.{tag_is, id_is};
 ghost use Rattle.records.specs.Records.{row_of, tag_of, tag_at, row_at, rows_of, lookup_of, Packs};
 
 use model::columns::{
     TAG_ACCESS, TAG_ALIAS, TAG_ELEMENTS, TAG_ID, TAG_LENGTH_1, TAG_LENGTH_2, TAG_LENGTH_3,
     TAG_NAME_LENGTH, TAG_NAME_START, TAG_OFFSET, TAG_SCOPE, TAG_TYPE,
 };
+use model::lookup;
 
 /// A tag: its scope (0 is the controller, k + 1 program k), its name's place in the store of tag names, its instance ID,
 /// its type word, its array lengths (nonzero first), its elements, its access, its alias mark and its place in tag memory.
@@ -118,53 +118,29 @@ pub fn pack(tags: &[Tag], rows: &mut [[u32; 12]]) -> usize
     ensures { Packs tags.now rows.old result rows.new }
 {
     let n = tags.len().min(rows.len());
+    // an index: over `rows.iter_mut().zip(tags)` an invariant can say nothing of the rows written so far
     for i in 0..n {
         rows[i] = tags[i].into();
     }
     n
 }
 
-/// Whether a record is of that scope and name, as `model::lookup` tests a row.
-fn is_named(tag: &Tag, tag_names: &[u8], scope: u32, name: &[u8]) -> bool
-    ensures { result ≡ tag_is tag_names.now scope name.now (row_of tag.now) }
-{
-    tag.scope == scope
-        && path::same_name(
-            model::lookup::part_of(tag_names, tag.name_start, tag.name_length),
-            name,
-        )
-}
-
-/// The same of a scope and an instance ID.
-fn has_id(tag: &Tag, scope: u32, id: u32) -> bool
-    ensures { result ≡ id_is scope id (row_of tag.now) }
-{
-    tag.scope == scope && tag.id == id
-}
-
-/// The record at a place that a search found.
-fn record_at(tags: &[Tag], at: Option<usize>) -> Option<Found>
-    requires { IfSome at (λ i. i < length tags.now) }
-    ensures { result ≡ lookup_of tags.now at }
-{
-    let at = at?;
-    Some(Found { at, tag: tags[at] })
-}
-
 /// The first tag of that scope and name: the record whose row the flat search finds among the rows that the records mean.
 pub fn tag_named(tags: &[Tag], tag_names: &[u8], scope: u32, name: &[u8]) -> Option<Found>
     ensures { result ≡ lookup_of tags.now (tag_in (rows_of tags.now) tag_names.now scope name.now) }
 {
-    let at = tags
-        .iter()
-        .position(|tag| is_named(tag, tag_names, scope, name));
-    record_at(tags, at)
+    tags.iter()
+        .enumerate()
+        .find(|(_, tag)| lookup::tag_is(&(**tag).into(), tag_names, scope, name))
+        .map(|(at, tag)| Found { at, tag: *tag })
 }
 
 /// The first tag of that scope and instance ID, likewise.
 pub fn tag_with_id(tags: &[Tag], scope: u32, id: u32) -> Option<Found>
     ensures { result ≡ lookup_of tags.now (id_in (rows_of tags.now) scope id) }
 {
-    let at = tags.iter().position(|tag| has_id(tag, scope, id));
-    record_at(tags, at)
+    tags.iter()
+        .enumerate()
+        .find(|(_, tag)| lookup::id_is(&<[u32; 12]>::from(**tag), scope, id))
+        .map(|(at, tag)| Found { at, tag: *tag })
 }

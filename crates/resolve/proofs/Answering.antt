@@ -3,7 +3,7 @@
 use mathlib.Core.Path.{◌≡◌, refl, sym, ap, ◌∙◌}
 use mathlib.Core.Bool.{Bool, true, false}
 use mathlib.Core.List.{List, []}
-use Rattle.std.specs.Prelude.{Result, Ok, Err}
+use Rattle.std.specs.Prelude.{Some, Result, Ok, Err}
 use Prim.Native.Nat.{ℕ, ◌<◌, ◌≤◌}
 use native.Mathlib.Omega.{arith}
 use lib.Dec.{leb, eqb}
@@ -11,7 +11,7 @@ use lib.ListN.{length, get_or, get_or-eq_default}
 use borrow.Author.Tests.{leb-true, leb-false}
 use Rattle.laws.specs.Pick.{is_some}
 use Rattle.laws.proofs.Chain.{by_test, pick_all}
-use Rattle.definition.specs.Segment.{segments}
+use Rattle.definition.specs.Segment.{Segment, segments}
 use Rattle.definition.specs.Tables.{Tables, Flags, field, tag_elements, tag_type, nonzero}
 use Rattle.definition.specs.Valid.{valid}
 use Rattle.definition.specs.Resolve.{found, whole_tag, index_lengths, resolve}
@@ -26,12 +26,12 @@ use Rattle.model.specs.declared.Target.{Target}
 use Rattle.model.proofs.Laws.{indexed_lengths}
 use Rattle.resolve.specs.declared.places.Place.{Place}
 use Rattle.resolve.specs.declared.start.Start.{Start}
-use Rattle.resolve.specs.Paths.{left}
+use Rattle.resolve.specs.Paths.{or_none, left}
 use Rattle.resolve.specs.Places.{place_of, moved_of, whole_row, open_lengths, Aims}
 use Rattle.resolve.specs.Starts.{Begins}
 use Rattle.resolve.specs.Steps.{Standing, walked}
 use Rattle.resolve.specs.Answers.{path_tables, ResolvesTo, Resolves, Targets}
-use Rattle.resolve.proofs.Lefts.{left_whole, some_left, three_parts}
+use Rattle.resolve.proofs.Lefts.{some_or, three_parts}
 use Rattle.resolve.proofs.Looks.{resolve_same}
 use Rattle.resolve.proofs.Stepping.{memory-small, programs-few}
 
@@ -64,28 +64,31 @@ module _ (t : Tables) (w : SomeValid (path_tables t)) where
 
     pub tabled_standing : (f : Flags) (g : Place) → place_of g ≡ whole_row i (get_or t.tags i []) → Standing t (place_of g)
     unfolding whole_tag whole_row
-    tabled_standing f g e = rw e (record { valid_in = w; stands = tag_stands (path_tables t w.rest) f w.memory w.ok i h })
+    tabled_standing f g e = rw e (record {
+      valid_in = record { rest = path_tables t w.rest; memory = w.memory; ok = w.ok };
+      stands = tag_stands (path_tables t w.rest) f w.memory w.ok i h;
+    })
 
-module _ (t : Tables) (f : Flags) (path : List ℕ) where
-  of_left : (r : Result Target Status) → ResolvesTo t.structures (resolve t f (left path 0)) r → Resolves t f path r
-  of_left r h = record { is = λ o l s. rw (resolve_same t o f l, ← (left_whole path 0 l s)) h }
+module _ (t : Tables) (f : Flags) (path : List ℕ) (l : List Segment) (decoded : segments path ≡ Some l) where
+  of_all : (r : Result Target Status) → ResolvesTo t.structures (resolve t f l) r → Resolves t f path r
+  of_all r h = record { is = λ o k e. let same : l ≡ k = cc (sym decoded ∙ e) in rw (resolve_same t o f k, ← same) h }
 
-  pub resolve-turned : (s : Status) → Begins t f path (resolve t f (left path 0)) (Err s) → Resolves t f path (Err s)
-  resolve-turned s b = of_left (Err s) (sym b.is)
+  pub resolve-turned : (s : Status) → Begins t f (resolve t f l) (Err s) → Resolves t f path (Err s)
+  resolve-turned s b = of_all (Err s) (sym b.is)
 
-  module _ (s : Start) (b : Begins t f path (resolve t f (left path 0)) (Ok s)) (first : Place)
+  module _ (s : Start) (b : Begins t f (resolve t f l) (Ok s)) (first : Place)
       (whole : place_of first ≡ whole_row s.tag (get_or t.tags s.tag []))
-      (m : Result Place Status) (walks : moved_of m ≡ walked t f path s.next (place_of first)) where
-    resolve_is : moved_of m ≡ resolve t f (left path 0)
+      (m : Result Place Status) (walks : moved_of m ≡ walked t f (left s.rest) (place_of first)) where
+    resolve_is : moved_of m ≡ resolve t f l
     unfolding whole_tag whole_row
     resolve_is = walks ∙ rw whole b.is
 
     pub resolve-away : (x : Status) → m ≡ Err x → Resolves t f path (Err x)
-    resolve-away x e = of_left (Err x) (rw e at (sym resolve_is))
+    resolve-away x e = of_all (Err x) (rw e at (sym resolve_is))
 
     pub resolve_found : (g : Place) (target : Target) → m ≡ Ok g → Aims t.structures g target → Resolves t f path (Ok target)
     resolve_found g target e a =
-        of_left (Ok target) (record { lengths = open_lengths g.lengths; is = (rw e at (sym resolve_is)) ∙ ap found (sym a.is); size_is = a.size_is })
+        of_all (Ok target) (record { lengths = open_lengths g.lengths; is = (rw e at (sym resolve_is)) ∙ ap found (sym a.is); size_is = a.size_is })
 
 -- ---- what a service may use
 
@@ -114,8 +117,9 @@ module _ (t : Tables) (f : Flags) (path : List ℕ) (writes : Bool) where
 pub found_aimed : (t : Tables) (path : List ℕ) (f : Flags) (writes : Bool) (g : Target) (memory : ℕ) → valid t memory ≡ true
     → is_some (segments path) ≡ true → Targets t f writes path (Ok g) → Aimed t.structures memory g
 found_aimed t path f writes g memory ok decodes r =
-    let a = r.is t (left path 0) (some_left path 0 decodes) in
-    let l = target_lies_in_its_tag t f memory writes (left path 0) (target_of g a.lengths) ok a.is in
+    let whole = or_none (segments path) in
+    let a = r.is t whole (some_or (segments path) decodes) in
+    let l = target_lies_in_its_tag t f memory writes whole (target_of g a.lengths) ok a.is in
     let s = a.size_is in
     record {
       size_is = s;

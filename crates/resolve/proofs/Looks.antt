@@ -1,4 +1,5 @@
--- A path is resolved by the structures, the members, the programs, the tags and their names: the other symbols and the templates do not matter.
+-- A path is resolved by the structures, the members, the programs, the tags and their names: the other symbols and the templates do not matter. A move
+-- looks at the structures, the members and the names alone.
 -- Assumes nothing.
 use mathlib.Core.Path.{◌≡◌, refl}
 use mathlib.Core.List.{List, [], ◌∷◌}
@@ -13,30 +14,31 @@ use Rattle.definition.specs.Tables.{Tables, Flags}
 use Rattle.definition.specs.Types.{structure_of}
 use Rattle.definition.specs.Lookup.{member_named, program_named, tag_named, tag_with_id}
 use Rattle.definition.specs.Resolve.{Target, Resolved, found, turned, whole_tag, Move, indexes, member, stray, moves, index, elements_from, member_found, member_of, move_to, and_then, walk, from_tag, by_instance, by_name, in_scope, in_program, scoped_by, resolve}
-use Rattle.resolve.specs.Answers.{path_tables}
+use Rattle.resolve.specs.Answers.{path_tables, walk_tables}
 
 then_same : (r : Resolved) (a b : Target → Resolved) → ((g : Target) → a g ≡ b g) → and_then r a ≡ and_then r b
 then_same (found g) a b h = h g
 then_same (turned s) a b h = refl
 
 module _ (t o : Tables) (f : Flags) where
-  abbrev seen : Tables
-  seen = path_tables t o
-
-  member_same : (g : Target) (i : Option ℕ) → member_found seen f g i ≡ member_found t f g i
+  member_same : (g : Target) (i : Option ℕ) → member_found (walk_tables t o) f g i ≡ member_found t f g i
   member_same g None = refl
   member_same g (Some i) = refl
 
-  pub move_same : (m : Move) (g : Target) → move_to seen f m g ≡ move_to t f m g
+  pub move_same : (m : Move) (g : Target) → move_to (walk_tables t o) f m g ≡ move_to t f m g
   unfolding index elements_from member_of
   move_same (indexes es) g = refl
   move_same (member name) g = rw (member_same g (member_named t (structure_of t g.type) name))
   move_same stray g = refl
 
+module _ (t o : Tables) (f : Flags) where
+  abbrev seen : Tables
+  seen = path_tables t o
+
   walk_same : (ms : List Move) (g : Target) → walk seen f ms g ≡ walk t f ms g
   unfolding walk
   walk_same [] g = refl
-  walk_same (m ∷ ms) g = rw (move_same m g) (then_same (move_to t f m g) _ _ (walk_same ms))
+  walk_same (m ∷ ms) g = rw (move_same t seen f m g) (then_same (move_to t f m g) _ _ (walk_same ms))
 
   tag_same : (unknown : Status) (i : Option ℕ) (rest : List Segment) → from_tag seen f unknown i rest ≡ from_tag t f unknown i rest
   unfolding whole_tag

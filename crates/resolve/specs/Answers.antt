@@ -7,12 +7,16 @@ use Rattle.definition.specs.Resolve.{Resolved, found, turned, resolve}
 use Rattle.definition.specs.Access.{tag_target}
 use Rattle.cip.specs.Statuses.{status_of}
 use Rattle.cip.specs.declared.Status.{Status}
-use Rattle.model.specs.Tables.{Whatever, for_path, target_of}
+use Rattle.model.specs.Tables.{Whatever, for_path, for_walk, target_of}
 use Rattle.model.specs.declared.Target.{Target}
 
 -- the tables that a path is resolved in, whatever the other symbols and the templates are
 abbrev pub path_tables : Tables → Tables → Tables
 path_tables t o = for_path t.structures t.members t.programs t.tags t.names t.tag_names o
+
+-- and those that its moves look at, whatever the others are
+abbrev pub walk_tables : Tables → Tables → Tables
+walk_tables t o = for_walk t.structures t.members t.names o
 
 -- a target, with some lengths of an array that is still open, and its type's size
 pub record FoundAs (structures : List Row) (d : Resolved) (g : Target) : Type 0 where

@@ -1,7 +1,7 @@
 -- A run of elements by its number and its last three values, held against three lengths.
-use Rattle.std.specs.Prelude.{◌≡◌, Bool, true, List, [], ◌∷◌, ℕ, ◌+◌, ◌*◌, ◌≤◌, ◌<◌, ltb, eqb, length, Option, None, Some}
-use Rattle.laws.specs.Pick.{pick, both, is_some}
-use Rattle.definition.specs.Segment.{port, class, instance, element, attribute, symbol, Step, step, cut, segments_from}
+use Rattle.std.specs.Prelude.{◌≡◌, Bool, List, [], ◌∷◌, ℕ, ◌+◌, ◌*◌, ◌≤◌, ◌<◌, ltb, eqb, length}
+use Rattle.laws.specs.Pick.{pick, both}
+use Rattle.definition.specs.Segment.{Segment}
 use Rattle.definition.specs.Tables.{Row}
 use Rattle.definition.specs.Types.{size_in}
 use Rattle.definition.specs.Valid.{product}
@@ -9,16 +9,6 @@ use Rattle.resolve.specs.declared.places.Place.{Place}
 use Rattle.resolve.specs.declared.elements.Run.{Run}
 use Rattle.resolve.specs.Paths.{left, leading, behind}
 use Rattle.resolve.specs.Places.{first_of, second_of, third_of, open_lengths}
-
--- the element that a step is, and where what follows it starts
-abbrev pub element_in : Step → Option (ℕ × ℕ)
-element_in cut = None
-element_in (step port next) = None
-element_in (step (class x) next) = None
-element_in (step (instance x) next) = None
-element_in (step (element x) next) = Some (x, next)
-element_in (step (attribute x) next) = None
-element_in (step (symbol name) next) = None
 
 -- the last three of some values, behind three others
 unfoldable pub last_three : (a b c : ℕ) → List ℕ → List ℕ
@@ -30,11 +20,10 @@ pub record Holds (es : List ℕ) (r : Run) : Type 0 where
   pub count_is : r.count ≡ length es
   pub last_are : r.last ≡ last_three 0 0 0 es
 
--- the run at a position
-pub record Ran (path : List ℕ) (from : ℕ) (r : Run) : Type 0 where
-  pub values_are : Holds (leading (left path from)) r
-  pub rest_is : left path r.next ≡ behind (left path from)
-  pub decodes : is_some (segments_from path r.next) ≡ true
+-- the run that some segments start with
+pub record Ran (l : List Segment) (r : Run) : Type 0 where
+  pub values_are : Holds (leading l) r
+  pub rest_is : left r.rest ≡ behind l
 
 -- as many of the last three values as there are lengths, each below its length
 abbrev pub inside_of : (lengths last : List ℕ) → Bool

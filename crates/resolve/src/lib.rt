@@ -3,22 +3,21 @@
 
 use cip::Status;
 use model::columns::STRUCTURE_AOI;
-use model::{Controller, Tables, Target};
+use model::{Controller, Target, types};
 use places::Place;
+use rest::Rest;
 
 mod elements;
 mod members;
 mod moves;
 mod places;
+mod rest;
 mod start;
 
 ghost use Rattle.std.specs.Prelude.{◌≡◌, true, [], ◌≤◌};
 ghost use Rattle.laws.specs.Pick.{is_some};
 ghost use Rattle.definition.specs.Access.{is_denied, refuses_locals};
-ghost use Rattle.definition.specs.Lookup.{marked};
 ghost use Rattle.definition.specs.Segment.{segments};
-ghost use Rattle.definition.specs.Tables.{is_aoi};
-ghost use Rattle.definition.specs.Types.{structure_in};
 ghost use Rattle.model.specs.Tables.{SomeValid, tables_of, flags_of, target_of};
 ghost use Rattle.resolve.specs.Answers.{path_tables, Resolves, Targets};
 
@@ -27,18 +26,10 @@ pub fn resolve(c: &Controller, path: &[u8]) -> Result<Target, Status>
     requires { (is_some (segments path.now) ≡ true) × SomeValid (path_tables (tables_of c.now.tables)) }
     ensures { Resolves (tables_of c.now.tables) (flags_of c.now.flags) path.now result }
 {
-    let start = start::tag_of(c, path)?;
+    let start = start::tag_of(c, Rest::of(path))?;
     let whole = Place::of_tag(start.tag, &c.tables.tags[start.tag]);
-    let place = moves::follow(c, path, start.next, whole)?;
+    let place = moves::follow(c, start.rest, whole)?;
     Ok(place.target(&c.tables))
-}
-
-fn is_aoi(t: &Tables, ty: u32) -> bool
-    requires { 256 ≤ ty }
-    ensures { result ≡ marked (is_aoi (structure_in t.now.structures.now ty)) }
-{
-    let row = t.structures.get(model::types::index_of(ty));
-    row.is_some_and(|row| row[STRUCTURE_AOI] == 1)
 }
 
 /// An AOI type with locals, where these are refused.
@@ -47,8 +38,8 @@ fn refuses_locals(c: &Controller, g: Target) -> bool
     ensures { result ≡ refuses_locals (tables_of c.now.tables) (flags_of c.now.flags) (target_of g []) }
 {
     c.flags.aoi_locals_refused
-        && model::types::is_structure(g.ty)
-        && is_aoi(&c.tables, g.ty)
+        && types::is_structure(g.ty)
+        && types::structure_word(c.tables.structures, g.ty, STRUCTURE_AOI) == 1
         && model::lookup::has_local(c.tables.members_of(g.ty))
 }
 

@@ -1,48 +1,49 @@
 // The moves behind a path's tag: a run of elements is one, a name is one, any other segment is turned away.
-ghost use Rattle.std.specs.Prelude.{◌≡◌, true, ◌<◌, length};
-ghost use Rattle.laws.specs.Pick.{is_some};
-ghost use Rattle.definition.specs.Segment.{segments_from};
+ghost use Rattle.std.specs.Prelude.{◌≡◌, false};
+ghost use Rattle.laws.specs.Pick.{is_empty};
 ghost use Rattle.model.specs.Tables.{tables_of, flags_of};
+ghost use Rattle.resolve.specs.Paths.{left};
 ghost use Rattle.resolve.specs.Places.{place_of, moved_of};
 ghost use Rattle.resolve.specs.Steps.{Standing, walked, Steps};
 
 use crate::elements::Run;
 use crate::members;
 use crate::places::Place;
+use crate::rest::Rest;
 use cip::Status;
 use model::Controller;
 use path::Segment;
 
-/// The move of the segments from a position on: where it leads to, and where what follows it starts.
-fn step(c: &Controller, path: &[u8], at: usize, g: Place) -> Result<(Place, usize), Status>
-    requires { (is_some (segments_from path.now at) ≡ true) × (at < length path.now)
-        × Standing (tables_of c.now.tables) (place_of g) }
-    ensures { Steps (tables_of c.now.tables) (flags_of c.now.flags) path.now at (place_of g) result }
+/// The move that the rest of a path starts with: where it leads to, and what follows it.
+fn step<'a>(c: &Controller, rest: Rest<'a>, g: Place) -> Result<(Place, Rest<'a>), Status>
+    requires { (is_empty (left rest) ≡ false) × Standing (tables_of c.now.tables) (place_of g) }
+    ensures { Steps (tables_of c.now.tables) (flags_of c.now.flags) (left rest.entry) (place_of g) result }
 {
-    let step = path::segment_at(path, at).ok_or(Status::PathError)?;
-    match step.segment {
+    let (segment, next) = rest.segment().ok_or(Status::PathError)?;
+    match segment {
         Segment::Element(_) => {
-            let run = Run::at(path, at);
+            let run = Run::of(rest);
             let to = g.index(&c.tables, run)?;
-            Ok((to, run.next))
+            Ok((to, run.rest))
         }
         Segment::Symbol(name) => {
             let to = members::member_of(c, name, g)?;
-            Ok((to, step.next))
+            Ok((to, next))
         }
         _ => Err(Status::PathError),
     }
 }
 
-/// All moves of the segments from a position on.
-pub fn follow(c: &Controller, path: &[u8], from: usize, first: Place) -> Result<Place, Status>
-    requires { (is_some (segments_from path.now from) ≡ true) × Standing (tables_of c.now.tables) (place_of first) }
-    ensures { moved_of result ≡ walked (tables_of c.now.tables) (flags_of c.now.flags) path.now from (place_of first) }
+/// All moves of the rest of a path.
+pub fn follow(c: &Controller, from: Rest, first: Place) -> Result<Place, Status>
+    requires { Standing (tables_of c.now.tables) (place_of first) }
+    ensures { moved_of result ≡ walked (tables_of c.now.tables) (flags_of c.now.flags) (left from.entry) (place_of first) }
 {
-    let mut at = from;
+    let mut rest = from;
     let mut g = first;
-    while at < path.len() {
-        (g, at) = step(c, path, at, g)?;
+    // no `for`: where the next move starts is what this one says
+    while !rest.is_empty() {
+        (g, rest) = step(c, rest, g)?;
     }
     Ok(g)
 }

@@ -90,7 +90,7 @@ impl Place {
     /// An array is open, the number of indexes matches, each is below its length.
     pub fn index(self, t: &Tables, run: Run) -> Result<Place, Status>
         requires { Bounded t.now.structures.now self }
-        ensures { (es : List ℕ) → Holds es run → moved_of result ≡ index (tables_of t.now) es (place_of self) }
+        ensures { (es : List ℕ) → Holds es run.entry → moved_of result ≡ index (tables_of t.now) es (place_of self) }
     {
         let dims = self.dims();
         if dims == 0 || run.count != dims {

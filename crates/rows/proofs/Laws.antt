@@ -88,7 +88,8 @@ by_any p r t false b f = simp (f refl, both-none, neither)
 abbrev pub behind : (name prefix : List ℕ) → Bool
 behind name prefix = both (starts_with prefix name) (leb (length name) (length prefix + 40))
 
-pub other_length_by : (name : List ℕ) → other_length name ≡ either (name_length name) (some_of (behind name) (program_prefix ∷ routine_prefix ∷ task_prefix ∷ []))
+pub other_length_by : (name : List ℕ) → other_length name ≡ either (name_length name)
+    (some_of (behind name) (program_prefix ∷ routine_prefix ∷ task_prefix ∷ []))
 unfolding some_of
 other_length_by name =
     by_tests_lem name ∙ by_test (name_length name) (λ e. rw e)

@@ -1,3 +1,2 @@
-pub mod AllRows
 pub mod Laws
 pub mod Regrouped

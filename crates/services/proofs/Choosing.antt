@@ -57,7 +57,8 @@ module _ (tables : Tables) (f : Flags) (memory : List ℕ) (service : ℕ) (path
     unfolding by_service
     by_tag e after h = record { is = λ l s. rw (ne_eqb service 0x55 no-page, tag_test l s, e) (h.is l s) }
 
-    pub by_other : b ≡ false → (o : Option Object) → ObjectAt path 0 o → Laid limit (capped service limit (otherwise service (object_is o))) old r new → By memory
+    pub by_other : b ≡ false → (o : Option Object) → ObjectAt path 0 o → Laid limit (capped service limit (otherwise service (object_is o))) old r new
+        → By memory
     unfolding by_service
     by_other e o at h = record {
       is = λ l s. rw (ne_eqb service 0x55 no-page, tag_test l s, e, object_is_lem path o l at s) (laid_answers limit _ old r new memory h);
@@ -90,7 +91,8 @@ module _ (tables : Tables) (f : Flags) (memory : List ℕ) (service : ℕ) (path
     unfolding plain
     plain_own after h = record { is = λ l s. rw (object_is_lem path o l at s, own_is o l, ← chosen) (h l s) }
 
-    pub plain-symbols : (i : ℕ) → w ≡ Some (own.SymbolList i) → Laid limit (capped service limit (symbol_attributes tables service i body)) old r new → Plain memory
+    pub plain-symbols : (i : ℕ) → w ≡ Some (own.SymbolList i) → Laid limit (capped service limit (symbol_attributes tables service i body)) old r new
+        → Plain memory
     plain-symbols i e h = plain_own memory (λ l s. rw e (laid_answers limit _ old r new memory h))
 
     pub plain-structures : (i : ℕ) → w ≡ Some (own.StructureList i)

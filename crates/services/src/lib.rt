@@ -9,9 +9,8 @@ use path::{Object, Request};
 pub mod targets;
 
 ghost use Rattle.std.specs.Prelude.{◌≡◌, true, ◌≤◌, length, Option};
-ghost use Rattle.laws.specs.Pick.{is_some, both};
+ghost use Rattle.laws.specs.Pick.{both};
 ghost use Rattle.definition.specs.Reply.{room};
-ghost use Rattle.definition.specs.Segment.{segments};
 ghost use Rattle.definition.specs.Valid.{valid};
 ghost use Rattle.definition.specs.Answer.{capped, otherwise, is_tag_service, by_service, plain as plainly};
 ghost use Rattle.cip.specs.Writes.{Laid};
@@ -55,7 +54,6 @@ fn refuse_other(o: Option<Object>, service: u8, limit: usize, buf: &mut [u8]) ->
 
 /// Items 14 to 18: a tag service on a tag path.
 fn is_tag_request(q: &Request) -> bool
-    requires { is_some (segments q.now.path.now) ≡ true }
     ensures { result ≡ both (is_tag_service q.now.service) (tag_path_from q.now.path.now 0) }
 {
     targets::is_tag_service(q.service) && path::is_tag_path(q.path, 0)
@@ -70,7 +68,6 @@ fn by_service(
     limit: usize,
     buf: &mut [u8],
 ) -> usize
-    requires decodes { is_some (segments q.now.path.now) ≡ true }
     requires object { ObjectAt q.now.path.now 0 o }
     requires judged { valid (tables_of c.now.tables) (length memory.old) ≡ true }
     requires room { room limit ≤ length buf.old }
@@ -89,7 +86,6 @@ fn by_service(
 
 /// A request that is no envelope; returns the reply's length.
 pub fn plain(c: &Controller, memory: &mut [u8], q: &Request, limit: usize, buf: &mut [u8]) -> usize
-    requires decodes { is_some (segments q.now.path.now) ≡ true }
     requires judged { valid (tables_of c.now.tables) (length memory.old) ≡ true }
     requires room { room limit ≤ length buf.old }
     ensures { OnPath q.now.path.now limit

@@ -1,8 +1,6 @@
 // Items 14 to 18: the services of a tag, from its path to tag memory.
 ghost use Rattle.std.specs.Prelude.{◌≡◌, true, [], ◌≤◌, length};
-ghost use Rattle.laws.specs.Pick.{is_some};
 ghost use Rattle.definition.specs.Reply.{room};
-ghost use Rattle.definition.specs.Segment.{segments};
 ghost use Rattle.definition.specs.Read.{read_reply};
 ghost use Rattle.definition.specs.Valid.{valid};
 ghost use Rattle.definition.specs.Answer.{is_read, is_write, is_tag_service, tag_service};
@@ -99,7 +97,6 @@ pub fn tag_service(
     limit: usize,
     buf: &mut [u8],
 ) -> usize
-    requires decodes { is_some (segments q.now.path.now) ≡ true }
     requires judged { valid (tables_of c.now.tables) (length memory.old) ≡ true }
     requires room { room limit ≤ length buf.old }
     ensures { OnPath q.now.path.now limit

@@ -127,23 +127,9 @@ fn counts(to: &impl Print, t: &Tables, memory: &[u8]) -> io::Result<()> {
     )
 }
 
-fn tags(to: &impl Print, t: &Tables) -> io::Result<()> {
-    for row in t.tags {
-        tag(to, row, t)?;
-    }
-    Ok(())
-}
-
-fn others(to: &impl Print, t: &Tables) -> io::Result<()> {
-    for row in t.others {
-        other(to, row, t)?;
-    }
-    Ok(())
-}
-
 /// All that is loaded, to a stream.
 pub fn show(to: &impl Print, t: &Tables, memory: &[u8]) -> io::Result<()> {
     counts(to, t, memory)?;
-    tags(to, t)?;
-    others(to, t)
+    t.tags.iter().try_for_each(|row| tag(to, row, t))?;
+    t.others.iter().try_for_each(|row| other(to, row, t))
 }

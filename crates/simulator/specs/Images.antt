@@ -1,7 +1,6 @@
 -- The head of a table image: its counts and the bytes of the whole image.
-use Rattle.std.specs.Prelude.{◌≡◌, ℕ, ◌+◌, ◌*◌, ◌/◌, ◌%◌, ◌≤◌, List, ◌==◌}
+use Rattle.std.specs.Prelude.{◌≡◌, ℕ, ◌+◌, ◌*◌, ◌≤◌, List}
 use Rattle.definition.specs.Bytes.{u32_at}
-use Rattle.model.specs.declared.Flags.{Flags}
 use Rattle.simulator.specs.declared.image.Head.{Head}
 
 -- ten words behind the magic: the flags, then the counts
@@ -10,12 +9,6 @@ HeadIn image h =
     (h.flags ≡ u32_at image 8) × (h.structures ≡ u32_at image 12) × (h.members ≡ u32_at image 16) × (h.programs ≡ u32_at image 20)
     × (h.tags ≡ u32_at image 24) × (h.others ≡ u32_at image 28) × (h.names ≡ u32_at image 32) × (h.tag_names ≡ u32_at image 36)
     × (h.templates ≡ u32_at image 40) × (h.memory ≡ u32_at image 44)
-
--- the flags by their bits
-abbrev pub FlagsIn : (word : ℕ) → Flags → Type 0
-FlagsIn word f =
-    (f.multi_service ≡ (word % 2 == 1)) × (f.instance_ids ≡ (word / 2 % 2 == 1))
-    × (f.aoi_locals_refused ≡ (word / 4 % 2 == 1)) × (f.micro800 ≡ (word / 8 % 2 == 1))
 
 -- no count above what T1 allows
 abbrev pub SmallHead : Head → Type 0

@@ -1,7 +1,6 @@
 // The pallet bench of document 01, served where no file is given: controller scope, access 0, multi-service and instance IDs on.
 use crate::session;
 use input::options::Options;
-use model::{Controller, Tables};
 use std::io;
 use std::io::Read;
 
@@ -15,19 +14,6 @@ pub fn serve(
     err: &impl Print,
     o: Options,
 ) -> io::Result<()> {
-    let c = Controller {
-        tables: Tables {
-            structures: &pallet::STRUCTURES,
-            members: &pallet::MEMBERS,
-            programs: &[],
-            tags: &pallet::TAGS,
-            others: &[],
-            names: &pallet::NAMES,
-            tag_names: &pallet::TAG_NAMES,
-            templates: &pallet::TEMPLATES,
-        },
-        flags: pallet::FLAGS,
-    };
     let mut memory = MEMORY;
-    session::open(from, to, err, &c, &mut memory, o)
+    session::open(from, to, err, &pallet::CONTROLLER, &mut memory, o)
 }

@@ -1,12 +1,12 @@
 // A table image (IMAGE.md): a head with the counts, the rows, the stores and the tag memory.
 ghost use Rattle.std.specs.Prelude.{◌≡◌, ◌+◌, ◌%◌, ◌≤◌, length, ◌==◌, IfOk};
 ghost use Rattle.definition.specs.Bytes.{u32_at};
-ghost use Rattle.simulator.specs.Images.{HeadIn, FlagsIn, SmallHead, rows_size, stores_size, image_size};
+ghost use Rattle.simulator.specs.Images.{HeadIn, SmallHead, rows_size, stores_size, image_size};
 
 use crate::session;
 use input::image_rows;
 use input::options::Options;
-use model::{Controller, Flags, Tables};
+use model::{Controller, Tables};
 use std::io::Read;
 use std::{fmt, io};
 
@@ -48,6 +48,7 @@ impl fmt::Display for Fault {
     }
 }
 
+/// A count of the head. Nine fields are one: a conversion beside each, or a chain over the words, is no plainer.
 fn count(image: &[u8], at: usize) -> usize
     requires { at + 4 ≤ length image.now }
     ensures { result ≡ u32_at image.now at }
@@ -143,23 +144,6 @@ fn head_of(image: &[u8]) -> Result<Head, Fault>
     Ok(h)
 }
 
-fn is_odd(word: u32) -> bool
-    ensures { result ≡ (word % 2 == 1) }
-{
-    word % 2 == 1
-}
-
-fn flags_of(word: u32) -> Flags
-    ensures { FlagsIn word result }
-{
-    Flags {
-        multi_service: is_odd(word),
-        instance_ids: is_odd(word / 2),
-        aoi_locals_refused: is_odd(word / 4),
-        micro800: is_odd(word / 8),
-    }
-}
-
 /// The session over a controller and tag memory that begins as an image has it.
 fn open_with(
     from: &mut impl Read,
@@ -211,7 +195,7 @@ fn load(
             tag_names,
             templates,
         },
-        flags: flags_of(h.flags),
+        flags: h.flags.into(),
     };
     open_with(from, to, err, &c, memory, o)
 }

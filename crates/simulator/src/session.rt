@@ -12,157 +12,123 @@ use model::{Controller, Tables};
 use std::io;
 use std::io::Read;
 
-/// Answers a request and shows the reply, behind the line's number where that is asked for.
-fn respond(
-    to: &impl Print,
-    c: &Controller,
-    memory: &mut [u8],
-    request: &[u8],
-    limit: usize,
-    buf: &mut [u8],
-    number: Option<u64>,
-) -> io::Result<()>
-    requires request { length request.now ≤ 65535 }
-    requires limit { limit ≤ 65535 }
-    requires room { 65535 ≤ length buf.old }
-    requires judged { valid (tables_of c.now.tables) (length memory.old) ≡ true }
-{
-    let n = logix::entry::answer(c, memory, request, limit, buf);
-    reply::show(to, &buf[..n], number)
+/// The bytes of the largest request, and of the largest reply.
+const MOST: usize = 65535;
+
+/// Where replies go, the controller that answers, and whether a reply has its line's number before it.
+#[derive(Drop)]
+struct Session<'a, P: Print> {
+    to: &'a P,
+    c: &'a Controller<'a>,
+    numbers: bool,
 }
 
-/// Answers a line.
-fn serve_line(
-    to: &impl Print,
-    c: &Controller,
-    numbers: bool,
-    memory: &mut [u8],
-    line: &[u8],
-    number: u64,
-    request: &mut [u8],
-    buf: &mut [u8],
-) -> io::Result<()>
-    requires request { length request.old ≤ 65535 }
-    requires room { 65535 ≤ length buf.old }
-    requires judged { valid (tables_of c.now.tables) (length memory.old) ≡ true }
-{
-    match hex::parse(line, request) {
-        Ok(None) => Ok(()),
-        Ok(Some(asked)) => {
-            let shown = numbers.then_some(number);
-            respond(
-                to,
-                c,
-                memory,
-                &request[..asked.len],
-                asked.limit,
-                buf,
-                shown,
-            )
-        }
-        Err(fault) => lines::complain(to, number, fault),
+impl<'a, P: Print> Session<'a, P> {
+    /// Answers a request and shows the reply, behind the line's number where that is asked for.
+    fn respond(
+        &self,
+        memory: &mut [u8],
+        request: &[u8],
+        limit: usize,
+        buf: &mut [u8; MOST],
+        number: Option<u64>,
+    ) -> io::Result<()>
+        requires request { length request.now ≤ 65535 }
+        requires limit { limit ≤ 65535 }
+        requires judged { valid (tables_of self.now.c.now.tables) (length memory.old) ≡ true }
+    {
+        let n = logix::entry::answer(self.c, memory, request, limit, buf);
+        reply::show(self.to, &buf[..n], number)
     }
-}
 
-/// Answers each whole line of the input, but for the rest of one that was too long; what is left starts at the place's position.
-fn serve_lines(
-    to: &impl Print,
-    c: &Controller,
-    numbers: bool,
-    memory: &mut [u8],
-    input: &[u8],
-    request: &mut [u8],
-    buf: &mut [u8],
-    place: Cursor,
-) -> io::Result<Cursor>
-    requires request { length request.old ≤ 65535 }
-    requires room { 65535 ≤ length buf.old }
-    requires judged { valid (tables_of c.now.tables) (length memory.old) ≡ true }
-    ensures { IfOk result (λ next. next.at ≤ length input.now) }
-{
-    let mut next = Cursor { at: 0, ..place };
-    while let Some(len) = input::lines::find(&input[next.at..], b'\n') {
-        let end = next.at + len;
-        if !next.skipping {
-            serve_line(
-                to,
-                c,
-                numbers,
-                memory,
-                &input[next.at..end],
-                next.line,
-                request,
-                buf,
-            )?;
+    /// Answers a line.
+    fn serve_line(
+        &self,
+        memory: &mut [u8],
+        line: &[u8],
+        number: u64,
+        request: &mut [u8; MOST],
+        buf: &mut [u8; MOST],
+    ) -> io::Result<()>
+        requires judged { valid (tables_of self.now.c.now.tables) (length memory.old) ≡ true }
+    {
+        match hex::parse(line, request) {
+            Ok(None) => Ok(()),
+            Ok(Some(asked)) => {
+                let shown = self.numbers.then_some(number);
+                self.respond(memory, &request[..asked.len], asked.limit, buf, shown)
+            }
+            Err(fault) => lines::complain(self.to, number, fault),
         }
-        next = Cursor {
-            at: end + 1,
-            line: next.line.wrapping_add(1),
-            skipping: false,
+    }
+
+    /// Answers each whole line of the input, but for the rest of one that was too long; what is left starts at the place's position.
+    fn serve_lines(
+        &self,
+        memory: &mut [u8],
+        input: &[u8],
+        request: &mut [u8; MOST],
+        buf: &mut [u8; MOST],
+        place: Cursor,
+    ) -> io::Result<Cursor>
+        requires judged { valid (tables_of self.now.c.now.tables) (length memory.old) ≡ true }
+        ensures { IfOk result (λ next. next.at ≤ length input.now) }
+    {
+        let mut next = Cursor { at: 0, ..place };
+        while let Some(len) = input::lines::find(&input[next.at..], b'\n') {
+            let end = next.at + len;
+            if !next.skipping {
+                self.serve_line(memory, &input[next.at..end], next.line, request, buf)?;
+            }
+            next = Cursor {
+                at: end + 1,
+                line: next.line.wrapping_add(1),
+                skipping: false,
+            };
+        }
+        Ok(next)
+    }
+
+    /// Reads once more and answers the lines that are whole; none where the input has ended.
+    fn turn(
+        &self,
+        from: &mut impl Read,
+        memory: &mut [u8],
+        input: &mut [u8],
+        request: &mut [u8; MOST],
+        buf: &mut [u8; MOST],
+        place: Cursor,
+    ) -> io::Result<Option<Cursor>>
+        requires inside { place.at ≤ length input.old }
+        requires judged { valid (tables_of self.now.c.now.tables) (length memory.old) ≡ true }
+        ensures { IfOk result (λ o. IfSome o (λ next. next.at ≤ length input.old)) }
+    {
+        if place.at >= input.len() {
+            return Ok(Some(lines::overflow(self.to, place)?));
+        }
+        let Some(end) = lines::read_more(from, input, place.at)? else {
+            return Ok(None);
         };
+        let next = self.serve_lines(memory, &input[..end], request, buf, place)?;
+        Ok(Some(next.shift(input, end)))
     }
-    Ok(next)
-}
 
-/// Reads once more and answers the lines that are whole; none where the input has ended.
-fn turn(
-    from: &mut impl Read,
-    to: &impl Print,
-    c: &Controller,
-    numbers: bool,
-    memory: &mut [u8],
-    input: &mut [u8],
-    request: &mut [u8],
-    buf: &mut [u8],
-    place: Cursor,
-) -> io::Result<Option<Cursor>>
-    requires request { length request.old ≤ 65535 }
-    requires room { 65535 ≤ length buf.old }
-    requires inside { place.at ≤ length input.old }
-    requires judged { valid (tables_of c.now.tables) (length memory.old) ≡ true }
-    ensures { IfOk result (λ o. IfSome o (λ next. next.at ≤ length input.old)) }
-{
-    if place.at >= input.len() {
-        return Ok(Some(lines::overflow(to, place)?));
-    }
-    let Some(end) = lines::read_more(from, input, place.at)? else {
-        return Ok(None);
-    };
-    let next = serve_lines(to, c, numbers, memory, &input[..end], request, buf, place)?;
-    Ok(Some(next.shift(input, end)))
-}
-
-/// Answers standard input to its end. No run uses up the count of turns.
-fn serve(
-    from: &mut impl Read,
-    to: &impl Print,
-    c: &Controller,
-    numbers: bool,
-    memory: &mut [u8],
-) -> io::Result<()>
-    requires { valid (tables_of c.now.tables) (length memory.old) ≡ true }
-{
-    let mut input = [0u8; 262144];
-    let mut request = [0u8; 65535];
-    let mut buf = [0u8; 65535];
-    let mut place = Cursor::first();
-    for _ in 0..u64::MAX {
-        match turn(
-            from,
-            to,
-            c,
-            numbers,
-            memory,
-            &mut input,
-            &mut request,
-            &mut buf,
-            place,
-        )? {
-            Some(next) => place = next,
-            None => return Ok(()),
+    /// Answers standard input to its end. No run uses up the count of turns.
+    fn serve(&self, from: &mut impl Read, memory: &mut [u8]) -> io::Result<()>
+        requires { valid (tables_of self.now.c.now.tables) (length memory.old) ≡ true }
+    {
+        let mut input = [0u8; 262144];
+        let mut request = [0u8; MOST];
+        let mut buf = [0u8; MOST];
+        let mut place = Cursor::first();
+        for _ in 0..u64::MAX {
+            match self.turn(from, memory, &mut input, &mut request, &mut buf, place)? {
+                Some(next) => place = next,
+                None => return Ok(()),
+            }
         }
+        Ok(())
     }
-    Ok(())
 }
 
 /// Whether the tables are valid for this tag memory; if not, it is said what they break.
@@ -195,5 +161,10 @@ pub fn open(
     if !judged(err, &c.tables, memory)? || o.tables {
         return Ok(());
     }
-    serve(from, to, c, o.numbers, memory)
+    let session = Session {
+        to,
+        c,
+        numbers: o.numbers,
+    };
+    session.serve(from, memory)
 }

@@ -8,14 +8,13 @@ use native.Mathlib.Nat.{add-sub_cancel_left}
 use native.Mathlib.Omega.{arith}
 use lib.Dec.{eqb}
 use lib.ListN.{get_or, length, drop}
-use borrow.Author.Tests.{lt-ltb, le-ltb, eqb-true}
+use borrow.Author.Tests.{lt-ltb, le-ltb, eqb-true, not-true}
 use Rattle.std.specs.List.{fold}
 use Rattle.std.proofs.lemmas.Bool.Decides.{nat_tests}
 use Rattle.laws.specs.Pick.{both}
 use Rattle.laws.specs.Tests.{every, pairs}
 use Rattle.laws.specs.Zip.{agree}
 use Rattle.laws.proofs.Chain.{clash}
-use Rattle.laws.proofs.Loops.{not_on}
 use Rattle.laws.proofs.Tests.{both_true, both-none, every_by, pairs_by, every_broken, pairs_broken}
 use Rattle.definition.specs.Names.{same_name, same_byte, lower}
 use Rattle.definition.specs.Tables.{Tables, Row, tag_scope, tag_name, tag_id}
@@ -170,18 +169,18 @@ module _ (t : Tables) where
   pub tag_fails : (i : ℕ) (r : Bool) → i < length t.tags → r ≡ every (tag_pair t.structures t.tag_names (get_or t.tags i [])) (drop (i + 1) t.tags)
       → not r ≡ true → symbols_judged t ≡ false
   unfolding symbols_judged
-  tag_fails i r h e q = rw (pairs_broken (tag_pair t.structures t.tag_names) [] t.tags i h (sym e ∙ not_on r q))
+  tag_fails i r h e q = rw (pairs_broken (tag_pair t.structures t.tag_names) [] t.tags i h (sym e ∙ not-true r q))
 
   pub tag_fails_other : (i : ℕ) (r : Bool) → i < length t.tags → r ≡ every (tag_other t.tag_names t.names (get_or t.tags i [])) t.others
       → not r ≡ true → symbols_judged t ≡ false
   unfolding symbols_judged
   tag_fails_other i r h e q =
       rw (
-        every_broken (λ a. every (tag_other t.tag_names t.names a) t.others) [] t.tags i h (sym e ∙ not_on r q),
+        every_broken (λ a. every (tag_other t.tag_names t.names a) t.others) [] t.tags i h (sym e ∙ not-true r q),
         both-none (pairs (tag_pair t.structures t.tag_names) t.tags),
       )
 
   pub other_fails : (i : ℕ) (r : Bool) → i < length t.others → r ≡ every (ids_differ (get_or t.others i [])) (drop (i + 1) t.others)
       → not r ≡ true → symbols_judged t ≡ false
   unfolding symbols_judged
-  other_fails i r h e q = simp (pairs_broken ids_differ [] t.others i h (sym e ∙ not_on r q), both-none)
+  other_fails i r h e q = simp (pairs_broken ids_differ [] t.others i h (sym e ∙ not-true r q), both-none)

@@ -101,6 +101,7 @@ fn id_span_at(t: &Tables, k: usize) -> Span
     }
 }
 
+// The next two hand the same `spread_by` other spans, and each says another fact of it.
 fn names_differ(t: &Tables) -> Result<(), Suspect>
     requires { length t.now.tags.now + length t.now.others.now ≤ 1088 }
     ensures { IsOk result → (pairs (tag_names_differ t.now.tag_names.now) t.now.tags.now ≡ true)

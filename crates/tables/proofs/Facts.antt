@@ -1,16 +1,17 @@
 -- What the code says of a test by its rule and its tables is what the definition's test has.
 -- Assumes nothing.
-use Rattle.std.specs.Prelude.{◌≡◌, refl, Bool, true, false, List, [], ◌∷◌, ℕ, suc, ◌<◌, leb, length, take, drop, map, get_or, ◌-◌, Option, None, Some}
+use Rattle.std.specs.Prelude.{◌≡◌, refl, Bool, true, false, List, [], ◌∷◌, ℕ, suc, ◌<◌, leb, length, take, drop, ◌-◌, Option, None, Some}
 use Rattle.std.specs.List.{enumerate_from}
 use native.Mathlib.Numerals.{add-one}
-use lib.ListN.{length-drop, get_or-map}
+use lib.ListN.{length-drop}
 use lib.Seq.{take-length}
-use Rattle.std.proofs.Common.{arith, ◌∙◌, sym, ap}
-use Rattle.std.proofs.lemmas.List.{get_or_default}
+use Rattle.std.proofs.Common.{arith, ◌∙◌}
 use Rattle.laws.specs.Pick.{both}
 use Rattle.laws.specs.Tests.{every, every_from, pairs}
+use Rattle.laws.specs.First.{first_of}
+use Rattle.laws.proofs.Mapped.{first_in}
 use Rattle.definition.specs.Tables.{Tables}
-use Rattle.definition.specs.Breach.{Test as DefinedTest, no_test, tell, tests, test_at, counts, structure_rules, member_rules, program_rules, tag_rules, other_rules, clashes}
+use Rattle.definition.specs.Breach.{Test as DefinedTest, tell, tests, test_breach, breach, counts, structure_rules, member_rules, program_rules, tag_rules, other_rules, clashes}
 use Rattle.std.specs.Option.{MatchOption, IsSomeAnd}
 use Rattle.definition.specs.Valid.{valid}
 use Rattle.rows.specs.Judged.{judged, few_enough, counts7}
@@ -74,21 +75,12 @@ module _ (x : Test) (t : Tables) (memory : ℕ) where
       let other = placed o m i c f (rw (others_are e) h) in
       rw (p, q, other.0, other.1, e, (has x t memory).rule, (has x t memory).table, (has x t memory).other) refl
 
--- ---- the code's tests are the definition's, in its order
+-- ---- the code's tests are the definition's, in its order: what they tell first
 
-all_tests : (t : Tables) (memory : ℕ) → map (λ x. test_of x t memory) TESTS ≡ tests t memory
-unfolding tests counts structure_rules member_rules program_rules tag_rules other_rules clashes structure_passes member_passes program_passes tag_passes
-    other_passes
-all_tests t memory = refl
-
-how_many : (t : Tables) (memory : ℕ) → length (tests t memory) ≡ 53
-how_many t memory = ap length (sym (all_tests t memory))
-
-pub listed : (t : Tables) (memory : ℕ) (d : Test) (n : ℕ) → n < 53 → test_of (get_or TESTS n d) t memory ≡ test_at t memory n
-listed t memory d n h =
-    sym (get_or-map (λ x. test_of x t memory) TESTS n d)
-    ∙ ap (λ xs. get_or xs n (test_of d t memory)) (all_tests t memory)
-    ∙ get_or_default (tests t memory) n (test_of d t memory) no_test (rw how_many h)
+pub tests_told : (t : Tables) (memory : ℕ) → first_in (λ x. test_breach (test_of x t memory)) TESTS ≡ breach t memory
+unfolding breach tests counts structure_rules member_rules program_rules tag_rules other_rules clashes structure_passes member_passes program_passes tag_passes
+    other_passes first_of test_breach
+tests_told t memory = refl
 
 -- ---- validity
 

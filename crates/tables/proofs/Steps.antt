@@ -1,53 +1,42 @@
--- The three loops that look for the first breach, over a test's rows, over the other table's rows and over the tests.
+-- What is told first, over a test's rows and over the other table's rows.
 -- Assumes nothing.
-use mathlib.Core.Path.{◌≡◌, refl, sym, ◌∙◌, ap}
-use mathlib.Core.Bool.{Bool, true, false}
+use mathlib.Core.Path.{◌≡◌, refl, ◌∙◌, ap}
+use mathlib.Core.Bool.{not}
+use mathlib.Core.List.{List, [], ◌∷◌}
 use Rattle.std.specs.Prelude.{Option, None, Some}
-use Prim.Native.Nat.{ℕ, ◌+◌, ◌-◌, ◌<◌}
+use Prim.Native.Nat.{ℕ, ◌-◌}
 use native.Mathlib.Omega.{arith}
-use Rattle.std.specs.Option.{is_some}
-use Rattle.laws.proofs.Chain.{clash}
-use Rattle.laws.specs.First.{first_of}
-use Rattle.laws.proofs.First.{first_next, first_hit}
+use Rattle.std.specs.List.{find, range_with_len}
+use Rattle.std.specs.Option.{MatchOption, IsSomeAnd, option_map}
+use Rattle.laws.proofs.Chain.{by_test}
+use Rattle.laws.proofs.Mapped.{first_in, first_in_range}
 use Rattle.tables.specs.declared.rules.Breach.{Breach as Told}
-use Rattle.tables.specs.Rules.{told_of}
-use Rattle.definition.specs.Tables.{Tables}
-use Rattle.definition.specs.Breach.{Breach, Test, tell, told_of as told_at, row_breach, test_breach, test_at, tests, counts, structure_rules, member_rules, program_rules, tag_rules, other_rules, clashes, breach}
+use Rattle.tables.specs.Rules.{told_of, breach_of}
+use Rattle.definition.specs.Breach.{Breach, Test, tell, told_of as told_at, row_breach, test_breach}
 
--- where the loops start
-pub rows_start : (x : Test) (i a e : ℕ) → a ≡ x.from i → e ≡ x.upto i → first_of (told_at x i) a (e - a) ≡ row_breach x i
-unfolding row_breach
-rows_start x i a e p q = rw (p, q)
-
-pub others_start : (x : Test) (e : ℕ) → e ≡ x.others → first_of (row_breach x) 0 (e - 0) ≡ test_breach x
+pub others_told : (x : Test) (e : ℕ) (r : Option Breach) → e ≡ x.others → r ≡ first_in (row_breach x) (range_with_len 0 (e - 0)) → r ≡ test_breach x
 unfolding test_breach
-others_start x e p = let z : e - 0 ≡ x.others = omega arith in rw z
+others_told x e r p q = let n : e - 0 ≡ x.others = omega (arith, p) in q ∙ first_in_range (row_breach x) 0 (e - 0) ∙ rw n refl
 
-pub tests_start : (t : Tables) (memory : ℕ) → first_of (λ n. test_breach (test_at t memory n)) 0 (53 - 0) ≡ breach t memory
-unfolding breach tests counts structure_rules member_rules program_rules tag_rules other_rules clashes
-tests_start t memory = refl
+module _ (x : Test) (i : ℕ) where
+  -- what is told of a row that a search found
+  abbrev of_row : Option ℕ → Option Breach
+  of_row None = None
+  of_row (Some j) = Some (tell x i j)
 
--- what is told of number i, by whether it is anything
-module _ (f : ℕ → Option Breach) (i e : ℕ) (whole : Option Breach) (here : first_of f i (e - i) ≡ whole) (h : i < e)
-    (o : Option Told) (q : told_of o ≡ f i) where
-  pub goes_on : (r : Bool) → r ≡ is_some o → r ≡ false → {j : ℕ} → j ≡ i + 1 → first_of f j (e - j) ≡ whole
-  goes_on r p n t = first_next f i e whole here h q (nothing o (sym p ∙ n)) t
-    where
-      nothing : (o : Option Told) → is_some o ≡ false → told_of o ≡ None
-      nothing None e = refl
-      nothing (Some a) e = clash (cc)
+  found_told : (js : List ℕ) → of_row (find (λ j. not (x.holds i j)) js) ≡ first_in (told_at x i) js
+  found_told [] = refl
+  found_told (j ∷ js) = by_test (x.holds i j) (λ t. rw t (found_told js)) (λ t. rw t refl)
 
-  pub stops : (r : Bool) → r ≡ is_some o → r ≡ true → told_of o ≡ whole
-  stops r p n = something o q (sym p ∙ n)
-    where
-      something : (o : Option Told) → told_of o ≡ f i → is_some o ≡ true → told_of o ≡ whole
-      something None q s = clash (cc)
-      something (Some a) q s = first_hit f i e whole here h q refl
+  told_by : (r : Option ℕ) (m : Option Told) {P : ℕ → Told → Type 0} → MatchOption r (m ≡ None) (λ j. IsSomeAnd m (P j))
+      → ((j : ℕ) (b : Told) → P j b → breach_of b ≡ tell x i j) → told_of m ≡ of_row (option_map (λ j. j) r)
+  told_by None m e f = rw e refl
+  told_by (Some j) None e f = absurd e
+  told_by (Some j) (Some b) e f = ap Some (f j b e)
 
--- row j, by what the test says of it
-module _ (x : Test) (i j e : ℕ) (whole : Option Breach) (here : first_of (told_at x i) j (e - j) ≡ whole) (h : j < e) (r : Bool) (q : r ≡ x.holds i j) where
-  pub row_passes : {k : ℕ} → r ≡ true → k ≡ j + 1 → first_of (told_at x i) k (e - k) ≡ whole
-  row_passes y u = first_next (told_at x i) j e whole here h refl (rw (sym q ∙ y)) u
-
-  pub row_breaks : (b : Breach) → r ≡ false → b ≡ tell x i j → Some b ≡ whole
-  row_breaks b y u = first_hit (told_at x i) j e whole here h refl (rw (sym q ∙ y) (ap Some (sym u)))
+  pub rows_told : (a e : ℕ) (r : Option ℕ) (m : Option Told) {P : ℕ → Told → Type 0} → a ≡ x.from i → e ≡ x.upto i
+      → option_map (λ j. j) r ≡ find (λ j. not (x.holds i j)) (range_with_len a (e - a))
+      → MatchOption r (m ≡ None) (λ j. IsSomeAnd m (P j)) → ((j : ℕ) (b : Told) → P j b → breach_of b ≡ tell x i j) → told_of m ≡ row_breach x i
+  unfolding row_breach
+  rows_told a e r m p q found is f =
+      told_by r m is f ∙ ap of_row found ∙ found_told (range_with_len a (e - a)) ∙ first_in_range (told_at x i) a (e - a) ∙ rw (p, q) refl

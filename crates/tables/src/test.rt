@@ -96,6 +96,7 @@ pub const TESTS: [Test; 53] = [
     Test::TagBytes,
 ];
 
+// The next five have the definition's lists of rules, one for each table and each in its order, so that the tests of a name stand in each.
 #[tactic(auto, using(laws::proofs::Chain::tests), unfolding(crate::specs::Tests::structure_passes, definition::specs::Breach::structure_rules))]
 fn structure_passes(rule: Rule, row: &[u32; 10], t: &Tables) -> bool
     ensures { result ≡ structure_passes (tables_of t.now) rule row.now }
@@ -324,26 +325,15 @@ impl Test {
         requires { i < (test_of self (tables_of t.now) (length memory.now)).others }
         ensures { told_of result ≡ row_breach (test_of self (tables_of t.now) (length memory.now)) i }
     {
-        // no `find`: its closure could not know that rows i and j are there, which `holds` asks for
-        let Range { start, end } = self.span(i, t, memory);
-        for j in start..end {
-            if !self.holds(i, j, t, memory) {
-                return Some(self.tell(i, j));
-            }
-        }
-        None
+        self.span(i, t, memory)
+            .find(|&j| !self.holds(i, j, t, memory))
+            .map(|j| self.tell(i, j))
     }
 
     /// Where it is broken first.
     pub fn breach(self, t: &Tables, memory: &[u8]) -> Option<Breach>
         ensures { told_of result ≡ test_breach (test_of self (tables_of t.now) (length memory.now)) }
     {
-        for i in 0..self.others(t, memory) {
-            let here = self.row_breach(i, t, memory);
-            if here.is_some() {
-                return here;
-            }
-        }
-        None
+        (0..self.others(t, memory)).find_map(|i| self.row_breach(i, t, memory))
     }
 }

@@ -7,17 +7,17 @@ use Rattle.std.specs.Prelude.{Option, None, Some}
 use Prim.Native.Nat.{ℕ, suc, ◌+◌, ◌/◌, ◌%◌, ◌≤◌, ◌<◌}
 use native.Mathlib.Omega.{arith}
 use lib.Dec.{leb, eqb}
-use lib.ListN.{length, take, get_or, length-append}
+use lib.ListN.{length, get_or, length-append}
 use lib.Seq.{take-append_seam, get_or-append-add}
 use borrow.Author.Tests.{leb-true, le-leb, lt-ltb, eqb-true, eqb-false, eq-eqb, ne_eqb}
 use Rattle.laws.specs.Pick.{pick}
-use Rattle.laws.specs.Put.{put, laid}
+use Rattle.laws.specs.Put.{put}
 use Rattle.laws.specs.Tests.{every}
 use Rattle.laws.proofs.Chain.{by_test, clash}
-use Rattle.laws.proofs.Put.{put_then, put-none, take_put}
+use Rattle.laws.proofs.Put.{put_then, put-none}
 use Rattle.laws.proofs.Tests.{both_true}
 use Rattle.definition.specs.Bytes.{le32, u32_at, counted}
-use Rattle.definition.specs.Reply.{Answer, answered, room}
+use Rattle.definition.specs.Reply.{Answer, answered}
 use Rattle.definition.specs.Segment.{Segment, class, instance, symbol, step, kind_of, logical_at, sized_at, segment_at, segments_from, segments}
 use Rattle.definition.specs.Tables.{Tables, Flags}
 use Rattle.definition.specs.Lookup.{program_of}
@@ -28,9 +28,6 @@ use Rattle.cip.specs.Writes.{Written}
 use Rattle.path.proofs.Segments.{segments_end, segments_next}
 use Rattle.continued.specs.Point3.{Encodes}
 use Rattle.continued.proofs.Requests.{u32_le32, to_service}
-use Rattle.services.specs.Answers.{Answers}
-use Rattle.whole.specs.Whole.{status_in}
-use Rattle.whole.proofs.Statuses.{laid-status}
 use Rattle.whole.specs.Lists.{scope_named, scope_of, name_path, scope_path, list_path, list_request, is_askable}
 
 -- ---- the bytes
@@ -103,9 +100,6 @@ module _ (program attributes : List ℕ) (id : ℕ) where
   unfolding list_request
   list_length = omega (arith, length-append (list_path program id) attributes, path-length)
 
-  pub list_short : is_askable program attributes ≡ true → length (list_request program attributes id) ≤ 1292
-  list_short e = omega (arith, list_length, (scope_even program).1, askable-short program attributes e)
-
   pub list_put : (n words : ℕ) (old a b c d e g : List ℕ) → n ≡ length (scope_path program) → 10 + n + length attributes ≤ length old → words ≡ (n + 8) / 2
       → a ≡ put old 0 (0x55 ∷ []) → b ≡ put a 1 (words ∷ []) → c ≡ put b 2 (scope_path program)
       → d ≡ put c (2 + n) (le32 0x00266B20) → e ≡ put d (6 + n) (le32 id) → g ≡ put e (10 + n) attributes
@@ -120,14 +114,6 @@ module _ (program attributes : List ℕ) (id : ℕ) where
       let six = put_then _ _ _ 0 _ _ _ (rw joined at five) v (omega (arith, path-length)) (omega arith) in
       let k : words ≡ length (list_path program id) / 2 = w ∙ rw (path-length, l) refl in
       record { length_is = omega (arith, list_length); buffer_is = rw k at six }
-
-  -- the message is the front of the array that the request was written to
-  pub list_part : (n : ℕ) (old new : List ℕ) → length (list_request program attributes id) ≤ length old
-      → Written 0 (list_request program attributes id) old n new → take n new ≡ list_request program attributes id
-  list_part n old new fits w =
-      let q = list_request program attributes id in
-      let e : n ≡ 0 + length q = omega (arith, w.length_is) in
-      rw (e, w.buffer_is) (take_put old 0 q (omega arith))
 
 -- ---- the segments of the path
 
@@ -246,10 +232,3 @@ module _ (t : Tables) (f : Flags) (m program attributes : List ℕ) (id limit : 
   unfolding list_symbols
   list_granted scope numbers s c a =
       ap (λ (a : Answer). a.reply) list_answer ∙ rw (page_starts program id t scope s, c, a)
-
-  -- the status, and the reply in the buffer
-  pub list_status : (n : ℕ) (old new left : List ℕ) → Answers limit (answer t f m (list_request program attributes id) limit) old n new left
-      → (status_in new ≡ status_in (answer t f m (list_request program attributes id) limit).reply) × (left ≡ m)
-      × (new ≡ laid (room limit) old (answer t f m (list_request program attributes id) limit).reply)
-  list_status n old new left r =
-      (laid-status (room limit) old _ new (omega arith) r.buffer_is, r.memory_is ∙ list_keeps, r.buffer_is)

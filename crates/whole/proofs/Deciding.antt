@@ -1,13 +1,12 @@
 -- What a whole read comes to, by what was sized before anything is sent.
 -- Assumes nothing.
-use Rattle.std.proofs.Common.{◌≡◌, ℕ, ◌+◌, ◌≤◌, ◌<◌, true, false, ltb, List, length, sym, refl, ◌∙◌, arith, lt-ltb, le-ltb, ltb-false}
+use Rattle.std.proofs.Common.{◌≡◌, ℕ, ◌+◌, ◌≤◌, ◌<◌, false, List, length, sym, refl, ◌∙◌, arith, lt-ltb, le-ltb}
 use Rattle.std.specs.Prelude.{Option, None, Some, Result, Ok, Err}
 use Rattle.laws.specs.Put.{laid}
-use Rattle.laws.proofs.Chain.{by_test, clash}
+use Rattle.laws.proofs.Chain.{clash}
 use Rattle.definition.specs.Reply.{room}
 use Rattle.definition.specs.Tables.{Tables, Flags, Row}
 use Rattle.definition.specs.Resolve.{Resolved, found, turned}
-use Rattle.definition.specs.Valid.{valid}
 use Rattle.definition.specs.Access.{tag_target}
 use Rattle.definition.specs.Read.{Selection, selected_bytes, granted, selection, ask_target}
 use Rattle.definition.proofs.Replies.{header-short}
@@ -18,8 +17,9 @@ use Rattle.reads.proofs.Reading.{ask_by}
 use Rattle.whole.specs.declared.ReplyStatus.{ReplyStatus}
 use Rattle.whole.specs.declared.Unjoined.TheVariants.{TooShort, TooNarrow, Turned}
 use Rattle.whole.specs.declared.sizes.Size.{Size}
-use Rattle.whole.specs.Whole.{chosen, Received, received, status_in, entered, whole_of}
-use Rattle.whole.specs.Parts.{sized_of, chosen_bytes, last_of, Sendable, Joinable}
+use Rattle.whole.specs.Asked.{Taken}
+use Rattle.whole.specs.Whole.{chosen, Received, received, is_sendable, status_in, whole_of}
+use Rattle.whole.specs.Parts.{sized_of, chosen_bytes, last_of, Joinable}
 use Rattle.whole.proofs.Sending.{readable}
 
 -- ---- something was sized: it is selected
@@ -45,8 +45,8 @@ granted-header structures (found g) elements s e = go (grant_of g.bit g.count el
     go (Ok unit) q = let k : selection structures g elements ≡ s = cc q in rw (← k) (header-short structures g.type)
     go (Err status) q = clash (cc q)
 
-module _ {t : Tables} (f : Flags) {memory path : List ℕ} (elements : ℕ) {limit buffer : ℕ} {o : Option Size} {v : Size}
-    (a : Sendable t memory path limit buffer) (sized : o ≡ sized_of memory (chosen t f path elements)) (e : o ≡ Some v) where
+module _ {t : Tables} (f : Flags) {memory : List ℕ} (path : List ℕ) (elements : ℕ) {limit buffer : ℕ} {o : Option Size} {v : Size}
+    (a : Taken (is_sendable path) t memory limit buffer) (sized : o ≡ sized_of memory (chosen t f path elements)) (e : o ≡ Some v) where
   some_sized : Sized memory (chosen t f path elements) v
   some_sized = sized_some memory (chosen t f path elements) v (sym e ∙ sized)
 
@@ -102,13 +102,3 @@ module _ (memory : List ℕ) (o : Option Selection) (first : List ℕ) (limit : 
             let b : v.bytes ≡ length (selected_bytes s memory) = cc q in
             let c = le-ltb limit (5 + length s.header) (omega arith) in
             rw (l, w.buffer_is, w.length_is, c, le-ltb (length out) (length (selected_bytes s memory)) (omega arith)) refl
-
--- ---- what the entry takes
-
-pub entered-all : (t : Tables) (memory limit buffer : ℕ) → Ok tt ≡ entered t memory limit buffer
-    → (limit ≤ 65535) × (room limit ≤ buffer) × (valid t memory ≡ true)
-unfolding entered
-entered-all t memory limit buffer e =
-    by_test (ltb 65535 limit) (λ a. clash (cc (rw a at e)))
-    (λ a. by_test (ltb buffer (room limit)) (λ b. clash (cc (rw (a, b) at e)))
-    (λ b. by_test (valid t memory) (λ v. (ltb-false 65535 limit a, ltb-false buffer (room limit) b, v)) (λ v. clash (cc (rw (a, b, v) at e)))))

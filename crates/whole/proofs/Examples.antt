@@ -9,10 +9,11 @@ use Rattle.laws.specs.Until.{until}
 use Rattle.definition.specs.Pallet.{pallet, pallet_flags, up_from, pallet_memory, pallet_start, rows, cell_run}
 use Rattle.definition.specs.Computed.{compute}
 use Rattle.continued.specs.Point3.{read_request}
+use Rattle.logix.specs.Entering.{entered}
 use Rattle.logix.specs.declared.entry.Refusal.TheVariants.{LimitTooLarge, BufferTooShort}
 use Rattle.whole.specs.declared.ReplyStatus.{ReplyStatus}
 use Rattle.whole.specs.declared.Unjoined.TheVariants.{TooShort, TooNarrow, Turned, Refused, Unsendable}
-use Rattle.whole.specs.Whole.{chosen, Received, received, word_in, entered, whole_of, whole_read}
+use Rattle.whole.specs.Whole.{chosen, Received, received, word_in, whole_of, whole_read}
 use Rattle.whole.specs.Lists.{scope_of, entries_of, scope_path, list_path, list_request, longest, whole_of_list, whole_list}
 
 -- a path and an element count; the limit, the reply buffer's length, and the lent buffer's

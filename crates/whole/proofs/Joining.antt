@@ -27,10 +27,10 @@ use Rattle.continued.proofs.Point3.{selected-few}
 use Rattle.whole.specs.declared.joins.Turn.{Turn}
 use Rattle.whole.specs.declared.joins.Turn.TheVariants.{Last, More}
 use Rattle.services.specs.Answers.{Answers}
-use Rattle.whole.specs.Whole.{chosen, last_chunk, first_reply, status_in}
-use Rattle.whole.proofs.Statuses.{laid-status}
-use Rattle.whole.specs.Parts.{chosen_bytes, last_of, Sendable, Joinable, Brings}
-use Rattle.whole.proofs.Sending.{read_keeps, readable, selected-answer}
+use Rattle.whole.specs.Whole.{chosen, is_sendable, last_chunk}
+use Rattle.whole.specs.Asked.{Taken}
+use Rattle.whole.specs.Parts.{chosen_bytes, last_of, Joinable, Brings}
+use Rattle.whole.proofs.Sending.{readable, selected-answer}
 
 -- ---- a fragment of the bytes from an offset on
 
@@ -94,7 +94,7 @@ module _ (header selected old new : List ℕ) (offset limit n : ℕ) (due : offs
 -- ---- one reply to a read that selects something
 
 module _ {t : Tables} {f : Flags} {m path : List ℕ} {elements limit header buffer room_out : ℕ}
-    (a : Sendable t m path limit buffer) (j : Joinable t f m path elements limit header room_out) where
+    (a : Taken (is_sendable path) t m limit buffer) (j : Joinable t f m path elements limit header room_out) where
   pub chosen-bytes : chosen_bytes m (chosen t f path elements) ≡ selected_bytes j.selection m
   chosen-bytes = ap (chosen_bytes m) j.chosen_is
 
@@ -119,7 +119,8 @@ module _ {t : Tables} {f : Flags} {m path : List ℕ} {elements limit header buf
       ap (λ (x : Answer). x.reply) (selected-answer t f m path elements j.selection got limit (reads count) (rw chosen-bytes at due))
 
 module _ {t : Tables} {f : Flags} {m path : List ℕ} {elements limit header got buffer room_out n : ℕ} {old new left : List ℕ}
-    (p : Sendable t m path limit buffer × Joinable t f m path elements limit header room_out × (got < length (chosen_bytes m (chosen t f path elements))))
+    (p : Taken (is_sendable path) t m limit buffer × Joinable t f m path elements limit header room_out
+    × (got < length (chosen_bytes m (chosen t f path elements))))
     (count : elements < 65536)
     (r : Answers limit (answer t f m (read_request path elements got) limit) old n new left) where
   abbrev selected : List ℕ
@@ -142,9 +143,6 @@ module _ {t : Tables} {f : Flags} {m path : List ℕ} {elements limit header got
 
   part_length : n ≡ 4 + header + size_of (length selected - got) (space header limit)
   part_length = rw p.1.header_is (fragment_length p.1.selection.header selected old new got limit n less open_space long lies)
-
-  pub part_keeps : left ≡ m
-  part_keeps = r.memory_is ∙ read_keeps t f m limit path elements got
 
   -- the data stands in the reply buffer
   pub part_inside : (4 + header ≤ n) × (n ≤ buffer) × (n ≤ 65535)
@@ -170,13 +168,6 @@ module _ {t : Tables} {f : Flags} {m path : List ℕ} {elements limit header got
         (brings_more p.1.selection.header selected old new got limit n less open_space long lies first end out filled
         (omega (arith, behind, p.1.header_is)) joins ends z)
 
--- the status of any read, and its reply in the buffer
-pub status_first : (t : Tables) (f : Flags) (m path : List ℕ) (elements limit n : ℕ) (old new left : List ℕ)
-    → Answers limit (answer t f m (read_request path elements 0) limit) old n new left
-    → (status_in new ≡ status_in (first_reply t f m path elements limit)) × (left ≡ m) × (new ≡ laid (room limit) old (first_reply t f m path elements limit))
-status_first t f m path elements limit n old new left r =
-    (laid-status (room limit) old _ new (omega arith) r.buffer_is, r.memory_is ∙ read_keeps t f m limit path elements 0, r.buffer_is)
-
 -- ---- the last chunk: one reply more, and the last one
 
 last_more : (s : ℕ) (chunk : List ℕ) → 0 < s → s < length chunk → last_chunk s chunk ≡ last_chunk s (drop (rounded s) chunk)
@@ -191,7 +182,8 @@ last_done s chunk h = until-done (λ c. leb (length c) s) (drop (rounded s)) (le
 -- ---- the reply buffer: each reply is laid over the one before it
 
 module _ {t : Tables} {f : Flags} {m path : List ℕ} {elements limit header room_out : ℕ} (start old new : List ℕ)
-    (a : Sendable t m path limit (length start)) (j : Joinable t f m path elements limit header room_out) {memory : List ℕ} (same : memory ≡ m) (got : ℕ)
+    (a : Taken (is_sendable path) t m limit (length start)) (j : Joinable t f m path elements limit header room_out)
+    {memory : List ℕ} (same : memory ≡ m) (got : ℕ)
     (kept : KeptFrom (room limit) start old) (lies : new ≡ laid (room limit) old (answer t f memory (read_request path elements got) limit).reply) where
   pub reply-over : KeptFrom (room limit) start new
   reply-over =
@@ -218,13 +210,6 @@ module _ {t : Tables} {f : Flags} {m path : List ℕ} {elements limit header roo
 pub joined-none : (out : List ℕ) → out ≡ put out 0 []
 unfolding put
 joined-none out = refl
-
--- a turn begins with the memory as it was and buffers as long as they were
-pub turn_ready : {t : Tables} {f : Flags} {m path : List ℕ} {elements limit header buffer room_out : ℕ} (memory : List ℕ) (b o got : ℕ)
-    → Sendable t m path limit buffer → Joinable t f m path elements limit header room_out → memory ≡ m → b ≡ buffer → o ≡ room_out
-    → got < length (chosen_bytes m (chosen t f path elements))
-    → Sendable t memory path limit b × Joinable t f memory path elements limit header o × (got < length (chosen_bytes memory (chosen t f path elements)))
-turn_ready memory b o got a j same e k due = rw (same, e, k) (a, j, due)
 
 -- `selected` are the bytes by the memory at the start, `current` by the memory at a turn
 module _ {space : ℕ} {selected current out filled : List ℕ} {got : ℕ} {v : Turn} (start : List ℕ) (fits : length selected ≤ length start)

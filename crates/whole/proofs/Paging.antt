@@ -3,7 +3,7 @@
 use mathlib.Core.Path.{◌≡◌, refl, sym, ap, ◌∙◌}
 use mathlib.Core.Logic.{◌≢◌}
 use mathlib.Core.List.{List, [], ◌∷◌, ◌++◌, append_assoc}
-use Rattle.std.specs.Prelude.{Option, None, Some}
+use Rattle.std.specs.Prelude.{Bool, Option, None, Some}
 use Prim.Native.Nat.{ℕ, zero, suc, ◌+◌, ◌-◌, ◌*◌, ◌≤◌, ◌<◌}
 use native.Mathlib.Omega.{arith}
 use lib.Dec.{leb, eqb}
@@ -30,9 +30,10 @@ use Rattle.continued.proofs.Entries.{bytes-append, bytes-some, fitting_le, fitti
 use Rattle.services.specs.Answers.{Answers}
 use Rattle.whole.specs.declared.joins.Turn.{Turn}
 use Rattle.whole.specs.declared.joins.Turn.TheVariants.{Last, More}
-use Rattle.whole.specs.Lists.{list_request, longest, behind, last_page}
-use Rattle.whole.specs.Turns.{Askable, Granted, StartsAt, BringsPage, Paged}
-use Rattle.whole.proofs.Asking.{askable-short, list_keeps, list_granted}
+use Rattle.whole.specs.Asked.{Taken}
+use Rattle.whole.specs.Lists.{list_request, is_askable, longest, behind, last_page}
+use Rattle.whole.specs.Turns.{Granted, StartsAt, BringsPage, Paged}
+use Rattle.whole.proofs.Asking.{askable-short, list_granted}
 
 -- ---- entries and the longest of them
 
@@ -140,7 +141,7 @@ module _ (es : List Entry) (limit n : ℕ) (old new : List ℕ) (room_for : 4 + 
 
 module _ {t : Tables} (f : Flags) {m program attributes : List ℕ} {limit buffer scope start size : ℕ} {numbers : List ℕ} (got : ℕ)
     {room_out : ℕ} {old new left : List ℕ}
-    (p : Askable t m program attributes limit buffer × Granted t program attributes scope numbers
+    (p : Taken (is_askable program attributes) t m limit buffer × Granted t program attributes scope numbers
     × (4 + longest (due t scope numbers start) ≤ limit)
     × (got + length (bytes_of (due t scope numbers start)) ≤ room_out) × (got ≤ 71302080))
     (small : start < 4294967296) (r : Answers limit (answer t f m (list_request program attributes start) limit) old size new left) where
@@ -148,7 +149,7 @@ module _ {t : Tables} (f : Flags) {m program attributes : List ℕ} {limit buffe
   entries = due t scope numbers start
 
   short : length program ≤ 255
-  short = (askable-short program attributes p.0.askable).0
+  short = (askable-short program attributes p.0.sendable).0
 
   reply_is : (answer t f m (list_request program attributes start) limit).reply ≡ page_reply 0x55 entries limit
   reply_is =
@@ -159,9 +160,6 @@ module _ {t : Tables} (f : Flags) {m program attributes : List ℕ} {limit buffe
 
   pub lies : new ≡ laid (room limit) old (page_reply 0x55 entries limit)
   lies = r.buffer_is ∙ ap (laid (room limit) old) reply_is
-
-  pub turn_keeps : left ≡ m
-  turn_keeps = r.memory_is ∙ list_keeps t f m program attributes start limit short small
 
   pub turn_inside : (4 ≤ size) × (size ≤ buffer) × (got + (size - 4) ≤ room_out) × (size ≤ 65535)
   turn_inside =
@@ -298,10 +296,10 @@ module _ (t : Tables) (scope : ℕ) (attributes : List ℕ) (start : ℕ) (liste
   starts_nowhere q = rw q at at
 
 -- a turn begins with the memory as it was and a reply buffer as long as it was
-pub turn_askable : {t : Tables} {m program attributes : List ℕ} {limit buffer : ℕ} (memory : List ℕ) (b : ℕ)
-    → Askable t m program attributes limit buffer → memory ≡ m → b ≡ buffer → Askable t memory program attributes limit b
-turn_askable memory b a same e = rw (same, e) a
+pub turn_taken : {can_send : Bool} {t : Tables} {m : List ℕ} {limit buffer : ℕ} (memory : List ℕ) (b : ℕ)
+    → Taken can_send t m limit buffer → memory ≡ m → b ≡ buffer → Taken can_send t memory limit b
+turn_taken memory b a same e = rw (same, e) a
 
 -- the tables in which it may be asked
-abbrev pub tables_asked : {t : Tables} {m program attributes : List ℕ} {limit buffer : ℕ} → Askable t m program attributes limit buffer → Tables
-tables_asked {t} a = t
+abbrev pub tables_asked : {can_send : Bool} {t : Tables} {m : List ℕ} {limit buffer : ℕ} → Taken can_send t m limit buffer → Tables
+tables_asked {can_send} {t} a = t

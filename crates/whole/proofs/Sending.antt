@@ -7,11 +7,11 @@ use Rattle.std.specs.Prelude.{Option, None, Some}
 use Prim.Native.Nat.{ℕ, ◌+◌, ◌*◌, ◌/◌, ◌%◌, ◌≤◌, ◌<◌}
 use native.Mathlib.Omega.{arith}
 use lib.Dec.{ltb, leb, eqb}
-use lib.ListN.{length, take, drop, length-append}
+use lib.ListN.{length, drop, length-append}
 use borrow.Author.Tests.{leb-true, eqb-true}
 use Rattle.laws.specs.Put.{put}
 use Rattle.laws.proofs.Chain.{by_test, pick_all, clash}
-use Rattle.laws.proofs.Put.{put_then, take_put}
+use Rattle.laws.proofs.Put.{put_then}
 use Rattle.laws.proofs.Tests.{both_true}
 use Rattle.definition.specs.Bytes.{le16, le32, part}
 use Rattle.definition.specs.Reply.{Answer, answered}
@@ -53,15 +53,6 @@ request-put path elements offset words old a b c d e fits w p q r s u =
     let four = put_then _ _ _ 0 _ _ _ three s (omega arith) (omega arith) in
     let five = put_then _ _ _ 0 _ _ _ four u (omega (arith, length-append path (le16 elements))) (omega arith) in
     record { length_is = omega (arith, request-length path elements offset); buffer_is = rw w at five }
-
--- the message is the front of the array that the request was written to
-pub request_part : (path : List ℕ) (elements offset n : ℕ) (old new : List ℕ) → 8 + length path ≤ length old
-    → Written 0 (read_request path elements offset) old n new → take n new ≡ read_request path elements offset
-request_part path elements offset n old new fits w =
-    let q = read_request path elements offset in
-    let l : 0 + length q ≤ length old = omega (arith, request-length path elements offset) in
-    let e : n ≡ 0 + length q = omega (arith, w.length_is) in
-    rw (e, w.buffer_is) (take_put old 0 q l)
 
 -- ---- the answer
 

@@ -1,15 +1,23 @@
--- The status of a reply that lies in a buffer, and what it says of a reply that turns a request away.
+-- A message at the start of an array, the status of a reply that lies in a buffer, and what it says of a reply that turns a request away.
 -- Assumes nothing.
 use mathlib.Core.Path.{◌≡◌, refl}
 use mathlib.Core.List.{List, [], ◌∷◌, ◌++◌}
 use Prim.Native.Nat.{ℕ, zero, suc, ◌+◌, ◌-◌, ◌≤◌, ◌<◌}
 use native.Mathlib.Omega.{arith}
-use lib.ListN.{length, get_or, drop, replicate}
+use lib.ListN.{length, get_or, take, drop, replicate}
 use Rattle.std.specs.Prelude.{None, Some}
 use Rattle.laws.specs.Put.{laid}
+use Rattle.laws.proofs.Put.{take_put}
 use Rattle.definition.specs.Bytes.{le16, u16_at}
 use Rattle.definition.specs.Reply.{reply, fail, general, extended}
+use Rattle.cip.specs.Writes.{Written}
 use Rattle.whole.specs.Whole.{status_in, word_in}
+
+-- what was written are the array's first bytes
+pub written_front : (message : List ℕ) (n : ℕ) (old new : List ℕ) → Written 0 message old n new → n ≤ length old → take n new ≡ message
+written_front message n old new w fits =
+    let e : n ≡ 0 + length message = omega (arith, w.length_is) in
+    rw (e, w.buffer_is) (take_put old 0 message (omega arith))
 
 -- zeros count as bytes past the end
 zeros_byte : (k i : ℕ) (rest : List ℕ) → i < k → get_or (replicate k 0 ++ rest) i 0 ≡ 0

@@ -1,3 +1,4 @@
+pub mod Asked
 pub mod Whole
 pub mod Parts
 pub mod Lists

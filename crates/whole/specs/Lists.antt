@@ -13,8 +13,9 @@ use Rattle.definition.specs.Lookup.{program_of}
 use Rattle.definition.specs.Page.{Entry, bytes_of, fitting, page_reply}
 use Rattle.definition.specs.Symbols.{is_listed, due}
 use Rattle.definition.specs.Answer.{answer}
+use Rattle.logix.specs.Entering.{entered}
 use Rattle.whole.specs.declared.Unjoined.TheVariants.{TooShort, TooNarrow, Turned, Unsendable}
-use Rattle.whole.specs.Whole.{Received, received, status_in, entered, unless_refused}
+use Rattle.whole.specs.Whole.{Received, received, status_in, unless_refused}
 
 -- ---- what is asked for
 

@@ -1,12 +1,10 @@
 -- What is known of a read before it is sent, and what one reply brings.
-use Rattle.std.specs.Prelude.{◌≡◌, true, List, [], ℕ, ◌+◌, ◌-◌, ◌*◌, ◌≤◌, ◌<◌, eqb, length, take, drop}
+use Rattle.std.specs.Prelude.{◌≡◌, List, [], ℕ, ◌+◌, ◌-◌, ◌*◌, ◌≤◌, ◌<◌, eqb, length, take, drop}
 use Rattle.std.specs.Prelude.{Option, None, Some, Result, Ok, Err}
 use Rattle.laws.specs.Pick.{pick}
 use Rattle.laws.specs.Put.{put}
-use Rattle.definition.specs.Reply.{room}
 use Rattle.definition.specs.Fragment.{rounded}
 use Rattle.definition.specs.Tables.{Tables, Flags, no_bit}
-use Rattle.definition.specs.Valid.{valid}
 use Rattle.definition.specs.Read.{Selection, selected_bytes}
 use Rattle.definition.specs.Answer.{answer}
 use Rattle.cip.specs.declared.Status.{Status}
@@ -19,6 +17,7 @@ use Rattle.whole.specs.declared.requests.Read.{Read}
 use Rattle.whole.specs.declared.sizes.Size.{Size}
 use Rattle.whole.specs.declared.joins.Turn.{Turn}
 use Rattle.whole.specs.declared.joins.Turn.TheVariants.{Last, More}
+use Rattle.whole.specs.Asked.{Taken}
 use Rattle.whole.specs.Whole.{chosen, is_sendable, last_reply}
 
 -- so many bytes, behind a type header of so many
@@ -43,13 +42,6 @@ abbrev pub last_of : (memory : List ℕ) (limit : ℕ) → Option Selection → 
 last_of memory limit None = []
 last_of memory limit (Some s) = last_reply s memory limit
 
--- a read that the entry takes
-pub record Sendable (t : Tables) (memory path : List ℕ) (limit buffer : ℕ) : Type 0 where
-  pub sendable : is_sendable path ≡ true
-  pub limit_fits : limit ≤ 65535
-  pub has_room : room limit ≤ buffer
-  pub tables : valid t (length memory) ≡ true
-
 -- a read that selects something, behind a header of so many bytes, with room for a byte behind it and for all of them in the lent buffer
 pub record Joinable (t : Tables) (f : Flags) (memory path : List ℕ) (elements limit header out : ℕ) : Type 0 where
   pub selection : Selection
@@ -72,7 +64,7 @@ reply_at c memory read offset limit =
     (answer (tables_of c.tables) (flags_of c.flags) memory (read_request read.path.now read.elements offset) limit).reply
 
 abbrev pub ReadTaken : Controller → (memory : List ℕ) → Read → (limit buffer : ℕ) → Type 0
-ReadTaken c memory read limit buffer = Sendable (tables_of c.tables) memory read.path.now limit buffer
+ReadTaken c memory read limit buffer = Taken (is_sendable read.path.now) (tables_of c.tables) memory limit buffer
 
 abbrev pub ReadJoins : Controller → (memory : List ℕ) → Read → (limit header out : ℕ) → Type 0
 ReadJoins c memory read limit header out = Joinable (tables_of c.tables) (flags_of c.flags) memory read.path.now read.elements limit header out

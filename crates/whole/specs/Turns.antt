@@ -4,9 +4,7 @@ use Rattle.std.specs.Prelude.{Option, None, Some}
 use Rattle.laws.specs.Put.{put}
 use Rattle.laws.specs.Tests.{every}
 use Rattle.definition.specs.Bytes.{counted}
-use Rattle.definition.specs.Reply.{room}
 use Rattle.definition.specs.Tables.{Tables}
-use Rattle.definition.specs.Valid.{valid}
 use Rattle.definition.specs.Page.{Entry, id_of, bytes_of, fitting}
 use Rattle.definition.specs.Symbols.{is_listed, due}
 use Rattle.definition.specs.Answer.{answer}
@@ -19,15 +17,10 @@ use Rattle.listing.specs.declared.pages.Page.{Page}
 use Rattle.whole.specs.declared.pages.Listing.{Listing}
 use Rattle.whole.specs.declared.joins.Turn.{Turn}
 use Rattle.whole.specs.declared.joins.Turn.TheVariants.{Last, More}
+use Rattle.whole.specs.Asked.{Taken}
 use Rattle.whole.specs.Lists.{is_askable, scope_of, entries_of, list_request, longest}
 
--- ---- a page that the entry takes, and one that is granted
-
-pub record Askable (t : Tables) (memory program attributes : List ℕ) (limit buffer : ℕ) : Type 0 where
-  pub askable : is_askable program attributes ≡ true
-  pub limit_fits : limit ≤ 65535
-  pub has_room : room limit ≤ buffer
-  pub tables : valid t (length memory) ≡ true
+-- ---- a page that is granted
 
 pub record Granted (t : Tables) (program attributes : List ℕ) (scope : ℕ) (numbers : List ℕ) : Type 0 where
   pub scope_is : scope_of t program ≡ Some scope
@@ -43,7 +36,8 @@ Accepted attributes (Some numbers) = (counted attributes ≡ Some (numbers_in nu
 -- ---- the same of a controller, a listing and a page as the code has them
 
 abbrev pub ListTaken : Controller → (memory : List ℕ) → Listing → (limit buffer : ℕ) → Type 0
-ListTaken c memory listing limit buffer = Askable (tables_of c.tables) memory listing.program.now listing.attributes.now limit buffer
+ListTaken c memory listing limit buffer =
+    Taken (is_askable listing.program.now listing.attributes.now) (tables_of c.tables) memory limit buffer
 
 abbrev pub ListGranted : Tables → Listing → Page → Type 0
 ListGranted t listing page = Granted t listing.program.now listing.attributes.now page.start.scope (numbers_in page.numbers)

@@ -10,14 +10,13 @@ use Rattle.definition.specs.Reply.{room}
 use Rattle.definition.specs.Segment.{Segment, segments}
 use Rattle.definition.specs.Request.{is_tag_path}
 use Rattle.definition.specs.Tables.{Tables, Flags}
-use Rattle.definition.specs.Valid.{valid}
 use Rattle.definition.specs.Access.{tag_target}
 use Rattle.definition.specs.Fragment.{space, rounded, fragment_reply}
 use Rattle.definition.specs.Read.{Selection, selected_bytes, Asked, granted, not_granted, ask_target}
 use Rattle.definition.specs.Answer.{answer}
 use Rattle.continued.specs.Point3.{read_request}
 use Rattle.logix.specs.declared.entry.Refusal.{Refusal}
-use Rattle.logix.specs.declared.entry.Refusal.TheVariants.{LimitTooLarge, BufferTooShort, TablesInvalid}
+use Rattle.logix.specs.Entering.{entered}
 use Rattle.whole.specs.declared.ReplyStatus.{ReplyStatus}
 use Rattle.whole.specs.declared.Unjoined.{Unjoined}
 use Rattle.whole.specs.declared.Unjoined.TheVariants.{TooShort, TooNarrow, Turned, Refused, Unsendable}
@@ -73,13 +72,6 @@ or_zero (Some word) = word
 
 abbrev pub code_of : ReplyStatus → ℕ
 code_of status = status.general + 256 * or_zero status.word
-
--- the entry's refusals that are no matter of the request, in their order
-unfoldable pub entered : Tables → (memory limit buffer : ℕ) → Result (Unit {0}) Refusal
-entered t memory limit buffer =
-    pick (ltb 65535 limit) (Err LimitTooLarge)
-    (pick (ltb buffer (room limit)) (Err BufferTooShort)
-    (pick (not (valid t memory)) (Err TablesInvalid) (Ok tt)))
 
 -- `first`: the reply to the read from the start, the only one where nothing is selected
 unfoldable pub whole_of : Option Selection → (first memory : List ℕ) (limit : ℕ) (buffer out : List ℕ) → Received

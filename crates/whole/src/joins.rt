@@ -4,35 +4,17 @@ ghost use Rattle.laws.specs.Put.{laid};
 ghost use Rattle.definition.specs.Reply.{room};
 ghost use Rattle.definition.specs.Fragment.{space};
 ghost use Rattle.cip.specs.Writes.{Written};
-ghost use Rattle.whole.specs.Whole.{status_in};
 ghost use Rattle.whole.specs.Parts.{chosen_in, selected_in, reply_at, last_of, ReadTaken, ReadJoins, Brings};
 
-use crate::ReplyStatus;
+use crate::asked::Asked;
 use crate::requests::Read;
 use model::Controller;
 
-/// How many bytes are received after a reply, and whether more are due.
+/// How many bytes are received after a reply, and whether more are due. `ControlFlow` has this shape; its names say less.
 #[derive(Clone, Copy)]
 pub enum Turn {
     Last(usize),
     More(usize),
-}
-
-/// The status of a reply to a read from the start; the reply stays in `buf`.
-pub fn first_status(
-    c: &Controller,
-    memory: &mut [u8],
-    read: &Read,
-    limit: usize,
-    buf: &mut [u8],
-) -> ReplyStatus
-    requires { ReadTaken c.now memory.old read.now limit (length buf.old) }
-    ensures status { result ≡ status_in (reply_at c.now memory.old read.now 0 limit) }
-    ensures memory { memory.new ≡ memory.old }
-    ensures buffer { buf.new ≡ laid (room limit) buf.old (reply_at c.now memory.old read.now 0 limit) }
-{
-    read.send(c, memory, 0, limit, buf);
-    ReplyStatus::of(buf)
 }
 
 /// Sends the read at the number of bytes received, and joins what the reply brings.
@@ -53,7 +35,7 @@ fn join_part(
     ensures memory { memory.new ≡ memory.old }
     ensures buffer { buf.new ≡ laid (room limit) buf.old (reply_at c.now memory.old read.now got limit) }
 {
-    let n = read.send(c, memory, got, limit, buf);
+    let n = read.send(c, memory, got as u32, limit, buf);
     let first = 4 + header;
     cip::copy_into(out, got, &buf[first..n]);
     let end = got + (n - first);

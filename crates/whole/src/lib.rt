@@ -2,6 +2,7 @@
 // symbols is done alike in `lists`.
 #![tactic(auto)]
 
+pub mod asked;
 pub mod joins;
 pub mod lists;
 pub mod pages;
@@ -11,15 +12,13 @@ pub mod walks;
 
 ghost use Rattle.std.specs.Prelude.{◌≡◌, ◌≤◌, length};
 ghost use Rattle.model.specs.Tables.{tables_of, flags_of};
-ghost use Rattle.whole.specs.Whole.{word_in, status_in, code_of, received, entered, whole_of, whole_read};
+ghost use Rattle.whole.specs.Whole.{word_in, status_in, code_of, received, whole_of, whole_read};
 ghost use Rattle.whole.specs.Parts.{chosen_in, reply_at, ReadTaken};
 
+use crate::asked::Asked;
 use crate::requests::Read;
-use logix::entry::Refusal;
+use logix::entry::{self, Refusal};
 use model::Controller;
-
-/// The largest limit.
-const MOST: usize = 65535;
 
 /// The general status of a reply, and its extended word where it has one.
 #[derive(Clone, Copy)]
@@ -75,20 +74,15 @@ pub enum Unjoined {
     Unsendable,
 }
 
-/// The entry's refusals that are no matter of the request.
-fn enter(c: &Controller, memory: &[u8], limit: usize, buf: &[u8]) -> Result<(), Refusal>
-    ensures { result ≡ entered (tables_of c.now.tables) (length memory.now) limit (length buf.now) }
-{
-    if limit > MOST {
-        return Err(Refusal::LimitTooLarge);
+// So that `?` passes a refusal on.
+impl From<Refusal> for Unjoined {
+    ghost use Rattle.whole.specs.declared.Unjoined.TheVariants.{Refused};
+
+    ghost from_gives = { λ why unjoined. unjoined ≡ Refused why };
+
+    fn from(why: Refusal) -> Unjoined {
+        Unjoined::Refused(why)
     }
-    if buf.len() < cip::room_of(limit) {
-        return Err(Refusal::BufferTooShort);
-    }
-    if !tables::valid(&c.tables, memory) {
-        return Err(Refusal::TablesInvalid);
-    }
-    Ok(())
 }
 
 /// A whole read that the entry takes.
@@ -106,7 +100,7 @@ fn read_sendable(
     ensures memory { memory.new ≡ memory.old }
 {
     let Some(size) = sizes::selected_size(c, memory, read) else {
-        let status = joins::first_status(c, memory, read, limit, buf);
+        let status = read.first_status(c, memory, limit, buf);
         return Err(Unjoined::Turned(status));
     };
     if limit < 5 + size.header {
@@ -136,8 +130,6 @@ pub fn read_whole(
     if !read.is_sendable() {
         return Err(Unjoined::Unsendable);
     }
-    if let Err(why) = enter(c, memory, limit, buf) {
-        return Err(Unjoined::Refused(why));
-    }
+    entry::enter(c, memory, limit, buf)?;
     read_sendable(c, memory, read, limit, buf, out)
 }

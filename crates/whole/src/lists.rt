@@ -5,11 +5,13 @@ ghost use Rattle.whole.specs.Whole.{received};
 ghost use Rattle.whole.specs.Lists.{scope_of, entries_of, whole_of_list, whole_list};
 ghost use Rattle.whole.specs.Turns.{Accepted, ListTaken, ListGranted, FirstPage, answer_at};
 
+use crate::asked::Asked;
 use crate::pages::Listing;
 use crate::{Unjoined, pages, walks};
 use cip::replies::HEADER;
 use listing::numbers::Numbers;
 use listing::pages::{Page, Start};
+use logix::entry;
 use model::{Controller, Tables};
 
 /// The scope that a program's name means: 0 is the controller's, which no name means, and a program's is its position plus one.
@@ -92,7 +94,7 @@ fn list_askable(
     ensures memory { memory.new ≡ memory.old }
 {
     let Some(first) = page_of(&c.tables, listing) else {
-        let status = pages::first_page(c, memory, listing, limit, buf);
+        let status = listing.first_status(c, memory, limit, buf);
         return Err(Unjoined::Turned(status));
     };
     list_granted(c, memory, listing, &first, limit, buf, out)
@@ -116,8 +118,6 @@ pub fn list_whole(
     if !listing.is_askable() {
         return Err(Unjoined::Unsendable);
     }
-    if let Err(why) = crate::enter(c, memory, limit, buf) {
-        return Err(Unjoined::Refused(why));
-    }
+    entry::enter(c, memory, limit, buf)?;
     list_askable(c, memory, listing, limit, buf, out)
 }

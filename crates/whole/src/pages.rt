@@ -1,18 +1,16 @@
-// A request for a page of symbols, its way to the dispatcher, and the pages joined one after the other.
-ghost use Rattle.std.specs.Prelude.{◌≡◌, true, ◌+◌, ◌≤◌, length};
+// A request for a page of symbols, and the pages joined one after the other.
+ghost use Rattle.std.specs.Prelude.{◌≡◌, ◌+◌, ◌≤◌, length};
 ghost use Rattle.laws.specs.Put.{put, laid};
 ghost use Rattle.definition.specs.Reply.{room};
 ghost use Rattle.definition.specs.Page.{bytes_of, page_reply};
-ghost use Rattle.definition.specs.Answer.{answer};
 ghost use Rattle.cip.specs.Writes.{Written};
-ghost use Rattle.model.specs.Tables.{tables_of, flags_of};
-ghost use Rattle.services.specs.Answers.{Answers};
-ghost use Rattle.whole.specs.Whole.{status_in};
+ghost use Rattle.model.specs.Tables.{tables_of};
 ghost use Rattle.whole.specs.Lists.{scope_path, list_request, is_askable, longest, last_page};
-ghost use Rattle.whole.specs.Turns.{ListTaken, ListGranted, answer_at, due_on, Paged};
+ghost use Rattle.whole.specs.Turns.{ListTaken, ListGranted, due_on, Paged};
 
+use crate::asked::Asked;
 use crate::joins::Turn;
-use crate::{ReplyStatus, walks};
+use crate::walks;
 use cip::codes::SYMBOL_PAGE;
 use cip::replies::HEADER;
 use listing::pages::{Page, Start};
@@ -67,12 +65,14 @@ impl<'a> Listing<'a> {
     {
         self.program.len() <= 255 && self.attributes.len() <= 1024
     }
+}
 
-    /// The request of a page from an ID on; returns its length.
-    fn put(&self, message: &mut [u8], id: u32) -> usize
-        requires { (is_askable self.now.program.now self.now.attributes.now ≡ true) × (1292 ≤ length message.old) }
-        ensures { Written 0 (list_request self.now.program.now self.now.attributes.now id) message.old result message.new }
-    {
+impl<'a> Asked for Listing<'a> {
+    ghost sendable = { λ listing. is_askable listing.program.now listing.attributes.now };
+
+    ghost request = { λ listing id. list_request listing.program.now listing.attributes.now id };
+
+    fn put(&self, message: &mut [u8], id: u32) -> usize {
         let n = scope_size(self.program);
         cip::put_u8(message, 0, SYMBOL_PAGE);
         cip::put_u8(message, 1, ((n + 8) / 2) as u8);
@@ -82,42 +82,6 @@ impl<'a> Listing<'a> {
         cip::copy_into(message, 10 + n, self.attributes);
         10 + n + self.attributes.len()
     }
-
-    /// Asks for a page from an ID on; returns the reply's length.
-    fn send(
-        &self,
-        c: &Controller,
-        memory: &mut [u8],
-        id: u32,
-        limit: usize,
-        buf: &mut [u8],
-    ) -> usize
-        requires { ListTaken c.now memory.old self.now limit (length buf.old) }
-        ensures { Answers limit
-            (answer (tables_of c.now.tables) (flags_of c.now.flags) memory.old (list_request self.now.program.now self.now.attributes.now id) limit)
-            buf.old result buf.new memory.new }
-    {
-        let mut message = [0u8; 1292];
-        let n = self.put(&mut message, id);
-        logix::dispatch(c, memory, &message[..n], limit, buf)
-    }
-}
-
-/// The status of a page from ID 0 on; the reply stays in `buf`.
-pub fn first_page(
-    c: &Controller,
-    memory: &mut [u8],
-    listing: &Listing,
-    limit: usize,
-    buf: &mut [u8],
-) -> ReplyStatus
-    requires { ListTaken c.now memory.old listing.now limit (length buf.old) }
-    ensures status { result ≡ status_in (answer_at c.now memory.old listing.now 0 limit) }
-    ensures memory { memory.new ≡ memory.old }
-    ensures buffer { buf.new ≡ laid (room limit) buf.old (answer_at c.now memory.old listing.now 0 limit) }
-{
-    listing.send(c, memory, 0, limit, buf);
-    ReplyStatus::of(buf)
 }
 
 /// Asks for a page, and joins the entries that it brings.

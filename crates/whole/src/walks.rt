@@ -14,17 +14,6 @@ use listing::pages::{Page, Step, Walk};
 use model::Tables;
 use model::least::Next;
 
-/// Before the first entry of a page. No tag is tried first.
-fn walk_from(id: u32) -> Walk
-    ensures { (result.used ≡ 4) × (result.bound ≡ id) }
-{
-    Walk {
-        used: HEADER,
-        bound: u64::from(id),
-        hint: 0,
-    }
-}
-
 /// The bytes of all entries from a page on, each of which a page can bring; none where one is too long for that. The buffer is used for one
 /// entry after the other.
 pub fn measure_all(t: &Tables, page: &Page, limit: usize, buf: &mut [u8]) -> Option<usize>
@@ -33,7 +22,7 @@ pub fn measure_all(t: &Tables, page: &Page, limit: usize, buf: &mut [u8]) -> Opt
     ensures kept { KeptFrom limit buf.old buf.new }
 {
     let mut total = 0;
-    let mut walk = walk_from(page.start.id);
+    let mut walk = page.begin();
     loop {
         match page.step(t, walk, limit, buf) {
             Step::More(next) => {
@@ -66,7 +55,7 @@ fn next_bound(t: &Tables, page: &Page, size: usize, buf: &mut [u8]) -> u64
         × (due t page.now.start.scope (numbers_in page.now.numbers) result ≡ behind size (due_on t page.now))) }
     ensures kept { KeptFrom size buf.old buf.new }
 {
-    let mut walk = walk_from(page.start.id);
+    let mut walk = page.begin();
     loop {
         match page.step(t, walk, size, buf) {
             Step::More(next) => walk = next,

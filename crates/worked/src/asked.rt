@@ -1,5 +1,5 @@
 // A message and what it comes to, a line each.
-use crate::hex::Hex;
+use input::bytes::Hex;
 use logix::entry::Refusal;
 use std::io;
 

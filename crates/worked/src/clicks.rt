@@ -1,8 +1,8 @@
 // P13: masked writes in a row to the plant of P11's page, one by one and joined into one request.
 ghost use Rattle.std.specs.Prelude.{◌+◌, ◌*◌, ◌≤◌, length};
 
-use crate::hex::Hex;
 use crate::{asked, plant};
+use input::bytes::Hex;
 use std::io;
 
 /// Sends a message and shows it with its reply.

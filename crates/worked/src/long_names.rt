@@ -83,55 +83,41 @@ fn only(to: &impl Print, table: Table, name: Name) -> io::Result<()> {
     }
 }
 
-/// Judges a table set whose one row is an other symbol with this start, and behind it so many times a byte.
-fn other(to: &impl Print, start: &[u8], count: u32, byte: u8) -> io::Result<()> {
-    only(to, Table::Others, Name { start, count, byte })
-}
-
-/// Names that an other symbol may have.
-fn long_enough(to: &impl Print) -> io::Result<()> {
-    other(to, b"Program:BottlingHallNorthFillerAndCapperLine", 0, b'x')?;
-    other(to, b"PROGRAM:", 40, b'x')?;
-    other(to, b"rOuTiNe:", 40, b'x')?;
-    other(to, b"Task:", 40, b'x')?;
-    other(to, b"Program:", 0, b'x')?;
-    other(to, b"task:", 0, b'x')?;
-    other(to, b"", 40, b'x')?;
-    other(to, b"Map:", 36, b'x')?;
-    other(to, b"Program:Task:", 35, b'x')
-}
-
-/// Names with a byte too many, or none.
-fn too_long(to: &impl Print) -> io::Result<()> {
-    other(to, b"Program:", 41, b'x')?;
-    other(to, b"PROGRAM:", 41, b'x')?;
-    other(to, b"rOuTiNe:", 41, b'x')?;
-    other(to, b"Task:", 41, b'x')?;
-    other(to, b"Task:", 43, b'x')?;
-    other(to, b"", 41, b'x')?;
-    other(to, b"", 0, b'x')?;
-    other(to, b"Map:", 37, b'x')?;
-    other(to, b"Program:Task:", 36, b'x')
-}
-
-/// What is no prefix, and bytes that no name has.
-fn no_names(to: &impl Print) -> io::Result<()> {
-    other(to, b"Programs:", 32, b'x')?;
-    other(to, b"xProgram:", 32, b'x')?;
-    other(to, b"Program", 34, b'x')?;
-    other(
-        to,
-        b"Program:xxxxxxxxxxxxxxxxxxxxxxxxxxxxxxxxxxxxxxx",
-        1,
-        0x7F,
-    )?;
-    other(to, b"Program:", 34, 0x1F)
-}
+/// Names of an other symbol, each by its start, and how often which byte stands behind that.
+const OTHER_NAMES: [(&[u8], u32, u8); 23] = [
+    // ones that it may have
+    (b"Program:BottlingHallNorthFillerAndCapperLine", 0, b'x'),
+    (b"PROGRAM:", 40, b'x'),
+    (b"rOuTiNe:", 40, b'x'),
+    (b"Task:", 40, b'x'),
+    (b"Program:", 0, b'x'),
+    (b"task:", 0, b'x'),
+    (b"", 40, b'x'),
+    (b"Map:", 36, b'x'),
+    (b"Program:Task:", 35, b'x'),
+    // a byte too many, or none
+    (b"Program:", 41, b'x'),
+    (b"PROGRAM:", 41, b'x'),
+    (b"rOuTiNe:", 41, b'x'),
+    (b"Task:", 41, b'x'),
+    (b"Task:", 43, b'x'),
+    (b"", 41, b'x'),
+    (b"", 0, b'x'),
+    (b"Map:", 37, b'x'),
+    (b"Program:Task:", 36, b'x'),
+    // no prefix, and bytes that no name has
+    (b"Programs:", 32, b'x'),
+    (b"xProgram:", 32, b'x'),
+    (b"Program", 34, b'x'),
+    (b"Program:xxxxxxxxxxxxxxxxxxxxxxxxxxxxxxxxxxxxxxx", 1, 0x7F),
+    (b"Program:", 34, 0x1F),
+];
 
 pub fn other_symbols(to: &impl Print) -> io::Result<()> {
-    long_enough(to)?;
-    too_long(to)?;
-    no_names(to)
+    for (start, count, byte) in OTHER_NAMES {
+        only(to, Table::Others, Name { start, count, byte })?;
+    }
+    Ok(())
 }
 
 /// The same name in each table: only the other symbol may have it.

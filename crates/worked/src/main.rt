@@ -3,7 +3,6 @@
 
 mod asked;
 mod clicks;
-mod hex;
 mod long_names;
 mod long_pages;
 mod one_read;

@@ -52,6 +52,7 @@ pub fn fields(to: &impl Print) -> io::Result<()> {
 fn opened(to: &impl Print, first: usize, limit: usize) -> io::Result<()> {
     let mut received = read(to, &OPEN, first)?;
     let mut answers = 1usize;
+    // no `for`: how many answers it takes is what the answers say
     while received < SELECTED {
         let n = read_from(to, received, limit)?;
         if n == 0 {

@@ -1,5 +1,5 @@
 // P5: paths and their segments, each with the table's entry of its first byte and the position behind it.
-use crate::hex::Hex;
+use input::bytes::Hex;
 use path::table::{First, Format, Logical};
 use path::{Segment, Step, table};
 use std::io;
@@ -53,8 +53,8 @@ fn step(to: &impl Print, at: usize, step: Step) -> io::Result<()> {
 fn show(to: &impl Print, path: &[u8]) -> io::Result<()> {
     print!(to; "path{}", Hex(path))?;
     let mut at = 0;
-    while at < path.len() {
-        print!(to; "; entry {}:", number_of(table::first_of(path[at])))?;
+    while let Some(first) = path.get(at) {
+        print!(to; "; entry {}:", number_of(table::first_of(*first)))?;
         let Some(found) = path::segment_at(path, at) else {
             return println!(to; " none");
         };

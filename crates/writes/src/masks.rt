@@ -81,7 +81,7 @@ fn are_joinable(ors: &[u8], ands: &[u8], next_ors: &[u8], next_ands: &[u8]) -> b
 }
 
 /// Joins the masks of a masked write with those of the next one to the same target, in the place of the first pair:
-/// one masked write with them leaves what the two leave. False where the four are not of one length; nothing is written then.
+/// one masked write with them leaves what the two leave. The four are lent one by one, as by C. False where the four are not of one length; nothing is written then.
 pub fn join_masks(ors: &mut [u8], ands: &mut [u8], next_ors: &[u8], next_ands: &[u8]) -> bool
     ensures { let first = pair ors.old ands.old in let next = pair next_ors.now next_ands.now in
         (result ≡ joinable first next) × (pair ors.new ands.new ≡ joined_to first next) }

@@ -6,8 +6,8 @@ ghost use Rattle.writes.specs.Storing.{Stores, fields_as, fields_in, fields_foun
 
 use cip::Status;
 use cip::codes::{STRUCTURE_CODE, WRITE_FRAGMENTED};
-use model::columns::NO_BIT;
-use model::types::FIRST_STRUCTURE;
+use model::columns::{NO_BIT, STRUCTURE_HANDLE};
+use model::types::{FIRST_STRUCTURE, structure_word};
 use model::{Tables, Target};
 
 /// A write's fields: a type and the handle of a structure's, a count of elements, an offset, and the value behind them.
@@ -75,7 +75,7 @@ fn type_matches(t: &Tables, g: Target, w: &Fields) -> bool
     if g.ty < FIRST_STRUCTURE {
         return w.ty == g.ty;
     }
-    w.ty == STRUCTURE_CODE && w.handle == model::types::structure_handle(t.structures, g.ty)
+    w.ty == STRUCTURE_CODE && w.handle == structure_word(t.structures, g.ty, STRUCTURE_HANDLE)
 }
 
 /// Stores the value: 0x4D all of it, 0x53 a part of it from the offset.

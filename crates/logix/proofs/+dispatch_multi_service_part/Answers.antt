@@ -12,9 +12,6 @@ use Rattle.logix.proofs.+dispatch_multi_service_part.Goals as goal
 pub dispatch-returns-in_default : goal.dispatch-returns-in_default
 dispatch-returns-in_default t c = answer-malformed _ _ _ _ _ _ _ _ _ _ c.in_default.ensures c.first_of.ensures c.fail.ensures refl
 
-pub dispatch-is_envelope-requires : goal.dispatch-is_envelope-requires
-dispatch-is_envelope-requires t c = c.in-Some.ensures.decodes
-
 pub dispatch-multi_service-requires : goal.dispatch-multi_service-requires
 dispatch-multi_service-requires t c =
     (omega (arith, body-shorter _ _ c.in-Some.ensures), (c.requires.judged, (c.requires.limit, c.requires.room)))
@@ -22,9 +19,6 @@ dispatch-multi_service-requires t c =
 pub dispatch-returns-then-is_envelope : goal.dispatch-returns-then-is_envelope
 dispatch-returns-then-is_envelope t c =
     answer-envelope _ _ _ _ _ _ _ _ _ _ c.in-Some.ensures _ c.is_envelope.ensures c.if-is_envelope.true c.multi_service.ensures
-
-pub dispatch-plain-requires : goal.dispatch-plain-requires
-dispatch-plain-requires t c = record { decodes = c.in-Some.ensures.decodes; judged = c.requires.judged; room = c.requires.room }
 
 pub dispatch-returns : goal.dispatch-returns
 dispatch-returns t c =
@@ -43,27 +37,6 @@ pub multi_service-loop-i-init : goal.multi_service-loop-i-init
 multi_service-loop-i-init t c =
     going_start _ _ _ _ _ _ (search rules)
 
-pub multi_service-part-r-requires : goal.multi_service-part-r-requires
-multi_service-part-r-requires t c = (
-  omega (arith, c.part.ensures.shorter, ap length c.in-Some.ensures),
-  (
-    rw c.loop-i.invariant.wide c.requires.judged,
-    (c.requires.limit, (omega (arith, c.budget_of-budget.ensures), omega (arith, c.loop-i.invariant.long, c.requires.room))),
-  ),
-)
-
-pub multi_service-overflow_add-used-in-loop-i : goal.multi_service-overflow_add-used-in-loop-i
-multi_service-overflow_add-used-in-loop-i t c =
-    omega (
-      arith,
-      c.part-r.ensures.placed.length_is,
-      c.part-r.ensures.least,
-      c.loop-i.invariant.bound,
-      c.loop-i.invariant.small,
-      c.budget_of-budget.ensures,
-      c.requires.limit,
-    )
-
 pub multi_service-loop-i-preserved : goal.multi_service-loop-i-preserved
 multi_service-loop-i-preserved t c =
     going_more _ _ _ _ _ _ _ _ _ _ _ c.loop-i.invariant _ _ (search rules) c.part.ensures c.budget_of-budget.ensures _ _ _ _
@@ -72,32 +45,17 @@ multi_service-loop-i-preserved t c =
 pub multi_service-returns : goal.multi_service-returns
 multi_service-returns t c =
     rw (← c.in-Some.ensures) (envelope_runs _ _ _ _ _ _ _ _ _ _ _ c.takes_envelopes.ensures (not_from_true _ c.if-not-takes_envelopes.false)
-    (has_parts _ _ refl c.in-Some.parts.there) c.in-Some.parts.counted (going_end _ _ _ _ _ _ _ _ _ _ _ c.loop-i.invariant _ _ (search rules) c.close.ensures c.requires.room))
+    (has_parts _ _ refl c.in-Some.parts.there) c.in-Some.parts.counted (going_end _ _ _ _ _ _ _ _ _ _ _ c.loop-i.invariant _ _
+    (search rules) c.close.ensures c.requires.room))
 
 pub part-returns-then-first_of-eq-ENVELOPE : goal.part-returns-then-first_of-eq-ENVELOPE
 part-returns-then-first_of-eq-ENVELOPE t c =
     part_declined _ _ _ _ _ _ _ _ _ _ c.first_of.ensures c.if-first_of-eq-ENVELOPE.true c.requires.room c.refuse_part.ensures
 
-pub part-dispatch-len-requires : goal.part-dispatch-len-requires
-part-dispatch-len-requires t c = (
-  search rules,
-  (
-    c.requires.judged,
-    (
-      omega (arith, c.requires.limit, c.requires.budget),
-      tail-room c.args.buf.now c.args.budget c.args.limit c.args.used c.if-budget-ge8.true c.requires.budget c.requires.room,
-    ),
-  ),
-)
-
 pub part-returns-then-budget-ge8 : goal.part-returns-then-budget-ge8
 part-returns-then-budget-ge8 t c =
     part_in_place _ _ _ _ _ _ c.first_of.ensures (search rules) _ _ _ _ _ _ c.if-budget-ge8.true c.requires.budget
     c.requires.room c.dispatch-len.ensures
-
-pub part-dispatch-n-requires : goal.part-dispatch-n-requires
-part-dispatch-n-requires t c =
-    (search rules, (c.requires.judged, (omega (arith, c.requires.limit, c.requires.budget), omega arith)))
 
 pub part-slice_bounds-scratch-end : goal.part-slice_bounds-scratch-end
 part-slice_bounds-scratch-end t c =

@@ -34,5 +34,9 @@ returns c =
     let size : length c.in_ok-path.path.now ≡ 2 * c.from.result = omega (arith, found.3) in
     record {
       is = request-is _ _ words found.1 _ is _ _ (c.in_ok-first.ensures.item.3.1 0) (rw size (to_end c.args.message.now (2 + 2 * c.from.result)));
+      path_is = rw (← words) is;
       decodes = path_decodes _ _ c.in_ok-count_segments.ensures;
     }
+
+pub invariant_of-result : goal.invariant_of-result
+invariant_of-result c = record { decodes = path_decodes _ _ c.in_ok-count_segments.ensures }

@@ -1,14 +1,6 @@
 -- The definition's refusals, offset aside, in its order; a granted read asks for no more elements than the target has.
-use Rattle.reads.proofs.Reading.{granted-few, read_granted, read_refused}
-use native.Mathlib.Omega.{arith}
+use Rattle.reads.proofs.Reading.{read_granted, read_refused}
 use Rattle.reads.proofs.read.Goals as goal
-
-pub send_selected-requires : goal.send_selected-requires
-send_selected-requires c = (
-  c.requires.0,
-  granted-few c.args.g.bit c.args.g.count _ _ c.requires.0.some_elements c.ask_of.ensures c.in-Ok.is,
-  omega arith,
-)
 
 pub returns-in-Ok : goal.returns-in-Ok
 returns-in-Ok c =

@@ -1,17 +1,9 @@
 -- The target lies in memory, so its first byte and its elements are there; a bit's byte or these are what is selected.
-use native.Mathlib.Omega.{arith}
 use Rattle.reads.proofs.Reading.{bit_sent, part_sent}
-use Rattle.reads.proofs.Aiming.{aimed_first, aimed_inside}
 use Rattle.reads.proofs.send_selected.Goals as goal
-
-pub bounds-memory-start : goal.bounds-memory-start
-bounds-memory-start c = aimed_first _ _ _ c.requires.0
 
 pub returns-then-g-ne-NO_BIT : goal.returns-then-g-ne-NO_BIT
 returns-then-g-ne-NO_BIT c = bit_sent _ _ _ _ _ _ _ _ _ _ _ c.if-g-ne-NO_BIT.true c.bit_of.ensures c.send_from.ensures
-
-pub overflow_mul-size : goal.overflow_mul-size
-overflow_mul-size c = omega (arith, aimed_inside _ _ _ c.requires.0 _ c.requires.1, c.requires.0.small_memory)
 
 pub returns : goal.returns
 returns c =

@@ -6,7 +6,7 @@ use Rattle.model.proofs.Lent.{some-valid}
 use Rattle.services.proofs.by_service.Goals as goal
 
 pub list_symbols-requires : goal.list_symbols-requires
-list_symbols-requires c = (c.requires.decodes, some-valid _ _ _ c.requires.judged refl, c.requires.room)
+list_symbols-requires c = (some-valid _ _ _ c.requires.judged refl, c.requires.room)
 
 pub returns-then-q-eq-SYMBOL_PAGE : goal.returns-then-q-eq-SYMBOL_PAGE
 returns-then-q-eq-SYMBOL_PAGE c =

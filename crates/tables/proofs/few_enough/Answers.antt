@@ -1,7 +1,7 @@
 -- Each table has at most as many rows as it may have, in the definition's order.
 use Rattle.std.specs.Prelude.{leb}
 use Rattle.std.proofs.Common.{rules, tests, length, ◌∙◌}
-use Rattle.rows.proofs.AllRows.{all_rows}
+use Rattle.laws.proofs.Chains.{all_slice}
 use Rattle.model.specs.Tables.{tables_of}
 use Rattle.tables.specs.Rules.{count_in, limit_of}
 use Rattle.tables.specs.declared.rules.Table.{Table}
@@ -12,5 +12,5 @@ use Rattle.tables.proofs.few_enough.Goals as goal
 pub returns : goal.returns
 returns c =
     let p = λ (x : Table). leb (count_in x (tables_of c.args.t.now) (length c.args.memory.now)) (limit_of x) in
-    all_rows p TABLES _ c.all.ensures.ran (cc) (λ x b q k. search (rules, tests))
+    all_slice p TABLES c.all.ensures.ran (cc) (λ x b q k. search (rules, tests))
     ∙ few (tables_of c.args.t.now) (length c.args.memory.now)

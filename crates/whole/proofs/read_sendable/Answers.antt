@@ -10,7 +10,7 @@ returns-in_default-clause-whole c =
 
 pub overflow_add-size : goal.overflow_add-size
 overflow_add-size c =
-    let h = sized_header _ _ c.requires c.selected_size.ensures c.in-Some.is c.args.read.now.small in
+    let h = sized_header _ _ _ c.requires c.selected_size.ensures c.in-Some.is c.args.read.now.small in
     search rules
 
 pub returns-then-limit-size-clause-whole : goal.returns-then-limit-size-clause-whole
@@ -22,7 +22,7 @@ returns-then-out-size-clause-whole c =
 
 pub join_all-requires-clause-joins : goal.join_all-requires-clause-joins
 join_all-requires-clause-joins c =
-    sized_joinable _ _ c.requires c.selected_size.ensures c.in-Some.is _ c.if-limit-size.false c.if-out-size.false
+    sized_joinable _ _ _ c.requires c.selected_size.ensures c.in-Some.is _ c.if-limit-size.false c.if-out-size.false
 
 pub returns-clause-whole : goal.returns-clause-whole
 returns-clause-whole c =

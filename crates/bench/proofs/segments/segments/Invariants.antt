@@ -2,5 +2,5 @@
 use Rattle.std.proofs.Common.{length, ◌-◌}
 use Rattle.bench.proofs.segments.segments.Given as goal
 
-abbrev pub decreases-loop-at : goal.decreases-loop-at
-decreases-loop-at g l = length l.path - l.at
+abbrev pub decreases-loop-step : goal.decreases-loop-step
+decreases-loop-step g l = length l.path - l.at

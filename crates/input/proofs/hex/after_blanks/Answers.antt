@@ -1,12 +1,10 @@
 -- The chain answers as the library's law of it says: behind the blanks the text goes on.
 use Rattle.std.proofs.Common.{rules, tests}
-use Rattle.std.proofs.lemmas.Iterator.{YieldsList-from_slice}
-use Rattle.std.proofs.lemmas.Iterator.Search.{position_from_yields_List}
 use mathlib.Core.Path.{ap, ◌∙◌}
 use mathlib.Core.Bool.{not}
 use Prim.Native.Nat.{ℕ}
 use lib.ListN.{drop}
-use Rattle.laws.proofs.Chains.{position_is}
+use Rattle.laws.proofs.Chains.{position_slice}
 use Rattle.laws.proofs.Parts.{to_end}
 use Rattle.input.specs.Lines.{is_blank}
 use Rattle.input.proofs.Text.{place_is, place_or_end}
@@ -17,9 +15,6 @@ pub returns : goal.returns
 returns c =
     let text = c.args.text.now in
     let stops = λ (x : ℕ). not (is_blank x) in
-    let place =
-    position_is stops text _
-    (position_from_yields_List stops _ _ _ c.position-blanks.ensures.ran (YieldsList-from_slice text cc)
-    (λ x b q k. search (rules, tests))) in
+    let place = position_slice stops text c.position-blanks.ensures.ran (cc) (λ x b q k. search (rules, tests)) in
     let end = c.unwrap_or.ensures ∙ place_or_end stops text _ (place_is stops text _ place) in
     to_end text _ ∙ ap (λ (k : ℕ). drop k text) end ∙ blanks_end text

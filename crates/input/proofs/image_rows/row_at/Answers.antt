@@ -1,10 +1,13 @@
--- Each turn adds the next word behind those that are there.
-use lib.ListN.{length-replicate}
-use Rattle.input.proofs.Rows.{words_start, one_word}
+-- Each word is read at its place.
+use Prim.Native.Nat.{ℕ, ◌+◌, ◌*◌}
+use mathlib.Core.Path.{◌∙◌}
+use Rattle.std.proofs.Common.{rules}
+use Rattle.definition.specs.Bytes.{u32_at}
+use Rattle.input.proofs.Rows.{from_fn_is, words_are}
 use Rattle.input.proofs.image_rows.row_at.Goals as goal
 
-pub loop-i-init : goal.loop-i-init
-loop-i-init g c = words_start _ _ _ _ (length-replicate _ _)
-
-pub loop-i-preserved : goal.loop-i-preserved
-loop-i-preserved g c = one_word _ _ _ _ _ c.loop-i.invariant _ c.loop-i-test.true c.u32_at.ensures
+pub returns : goal.returns
+returns g c =
+    let src = c.args.src.now in
+    from_fn_is (λ (k : ℕ). u32_at src (c.args.at + 4 * k)) _ 0 g.row.WIDTH c.from_fn.ensures.items (λ k y q h. search rules)
+    ∙ words_are src c.args.at g.row.WIDTH

@@ -10,10 +10,10 @@ returns-in-Some c =
 
 pub returns-then-is_none : goal.returns-then-is_none
 returns-then-is_none c =
-    let none = found_some _ _ _ c.if-is_none.ensures c.find_tag_id.ensures in
+    let none = found_some _ _ _ c.if-is_none.ensures c.find_id-2.ensures in
     symbol-unknown _ _ _ _ _ _ (tables_of c.args.t.now) _ c.in_default.ensures none c.refuse.ensures
 
 pub returns : goal.returns
 returns c =
-    let some = found_some _ _ _ c.if-is_none.ensures c.find_tag_id.ensures in
+    let some = found_some _ _ _ c.if-is_none.ensures c.find_id-2.ensures in
     tag_listed _ _ _ _ _ _ (tables_of c.args.t.now) _ c.in_default.ensures some c.answer-2.ensures

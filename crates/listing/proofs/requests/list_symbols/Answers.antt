@@ -5,7 +5,7 @@ use Rattle.listing.proofs.Starts.{lists-unknown, lists-missing, lists-refused, l
 use Rattle.listing.proofs.requests.list_symbols.Goals as goal
 
 pub page_start-requires : goal.page_start-requires
-page_start-requires c = (c.requires.0, few-programs (tables_of c.args.t.now) c.requires.1)
+page_start-requires c = (c.args.q.decodes, few-programs (tables_of c.args.t.now) c.requires.0)
 
 pub returns-in_default : goal.returns-in_default
 returns-in_default c = lists-unknown (tables_of c.args.t.now) c.args.q _ _ _ _ c.in_default.ensures c.fail.ensures
@@ -20,7 +20,7 @@ returns-then-not-all_listed c =
     c.fail-then-not-all_listed.ensures
 
 pub put-requires : goal.put-requires
-put-requires c = (page_valid (tables_of c.args.t.now) c.requires.1, c.requires.2)
+put-requires c = (page_valid (tables_of c.args.t.now) c.requires.0, c.requires.1)
 
 pub returns : goal.returns
 returns c =

@@ -3,9 +3,6 @@ use mathlib.Core.Path.{refl}
 use Rattle.logix.proofs.Offsets.{order_on, order_off, order_end}
 use Rattle.logix.proofs.body.in_order.Goals as goal
 
-pub loop-i-init : goal.loop-i-init
-loop-i-init c = refl
-
 pub returns-then-next-at : goal.returns-then-next-at
 returns-then-next-at c = order_off _ _ _ _ c.loop-i.invariant _ c.loop-i-test.true c.mark-next.ensures c.if-next-at.true
 

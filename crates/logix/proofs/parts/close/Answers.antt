@@ -2,9 +2,6 @@
 use Rattle.logix.proofs.Placing.{closed, closed_late}
 use Rattle.logix.proofs.parts.close.Goals as goal
 
-pub returns-then-limit-used : goal.returns-then-limit-used
-returns-then-limit-used c = closed_late _ _ _ _ _ _ _ c.if-limit-used.true c.fail.ensures
-
 pub returns : goal.returns
 returns c =
     closed _ _ _ _ _ _ _ _ _ _ _ _ c.if-limit-used.false c.requires.0 c.requires.1 c.outcome.ensures c.put_header.ensures

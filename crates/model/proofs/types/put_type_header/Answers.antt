@@ -2,8 +2,5 @@
 use Rattle.model.proofs.Laws.{headers}
 use Rattle.model.proofs.types.put_type_header.Goals as goal
 
-pub returns-then-ty-lt-FIRST_STRUCTURE : goal.returns-then-ty-lt-FIRST_STRUCTURE
-returns-then-ty-lt-FIRST_STRUCTURE c = search headers
-
 pub returns : goal.returns
 returns c = search headers

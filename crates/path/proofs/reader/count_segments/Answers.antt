@@ -1,8 +1,7 @@
 -- What each call says of the reader's own path is said of the path; the lemmas of `Counts.antt` do the rest.
 use mathlib.Core.Path.{sym, ap, subst, ◌∙◌}
 use mathlib.Core.List.{List}
-use Prim.Native.Nat.{ℕ, ◌+◌, ◌<◌, ◌≤◌}
-use native.Mathlib.Omega.{arith}
+use Prim.Native.Nat.{ℕ, ◌<◌, ◌≤◌}
 use lib.ListN.{length}
 use Rattle.std.proofs.Common.{Bor, rules}
 use Rattle.path.proofs.Counts.{Counting, going_start, going_end, going_bad, going_next, going_less}
@@ -19,13 +18,6 @@ returns-in_err-segment c =
     let same = c.loop-r.invariant.0 in
     let inside : c.loop-r.r.at < length c.args.path.now = rw (← same) (search rules) in
     rw c.from_residual.ensures (going_bad _ _ _ c.loop-r.invariant.1 inside (rw same at c.in_err-segment.ensures.stands.0))
-
-pub overflow_add-count : goal.overflow_add-count
-overflow_add-count c =
-    let same = c.loop-r.invariant.0 in
-    let inside : c.loop-r.r.at < length c.args.path.now = rw (← same) (search rules) in
-    let below : c.loop-r.count + 1 ≤ length c.args.path.now = omega (arith, c.loop-r.invariant.1.below) in
-    search rules
 
 pub loop-r-smaller : goal.loop-r-smaller
 loop-r-smaller c =

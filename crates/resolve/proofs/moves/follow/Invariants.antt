@@ -5,8 +5,8 @@ use Rattle.resolve.specs.Paths.{left}
 use Rattle.resolve.proofs.Stepping.{Following}
 use Rattle.resolve.proofs.moves.follow.Given as goal
 
-abbrev pub invariant-loop-at : goal.invariant-loop-at
-invariant-loop-at l = Following (tables_of l.c.tables) (flags_of l.c.flags) l.path l.from l.initial.g l.at l.g
+abbrev pub invariant-loop-rest : goal.invariant-loop-rest
+invariant-loop-rest l = Following (tables_of l.c.tables) (flags_of l.c.flags) (left l.from) l.fn.first (left l.rest) l.g
 
-abbrev pub decreases-loop-at : goal.decreases-loop-at
-decreases-loop-at l = length (left l.path l.at)
+abbrev pub decreases-loop-rest : goal.decreases-loop-rest
+decreases-loop-rest l = length (left l.rest)

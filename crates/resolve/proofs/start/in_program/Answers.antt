@@ -8,25 +8,14 @@ use Rattle.resolve.proofs.Rows.{found_none, found_some}
 use Rattle.resolve.proofs.Starting.{program_few, program_found, program_none}
 use Rattle.resolve.proofs.start.in_program.Goals as goal
 
-pub returns-in_err-k : goal.returns-in_err-k
-returns-in_err-k c =
-    let p = err_from_is_err_and c.from_residual.result c.from_residual.ensures.1 in
-    let n = found_none _ _ _ _ c.ok_or.ensures.value c.in_err-k.was in
-    rw (p.1, p.2, n.1) (program_none _ _ _ c.args.name.now _ (sym c.find_program.ensures ∙ n.0))
-
 pub overflow_add-k : goal.overflow_add-k
 overflow_add-k c =
     let s = sym c.find_program.ensures ∙ found_some _ _ _ _ c.ok_or.ensures.value c.in_ok-k.was in
-    let few : c.in_ok-k.k < 16 = program_few (tables_of c.args.c.now.tables) c.args.name.now c.in_ok-k.k c.requires.1 s in
+    let few : c.in_ok-k.k < 16 = program_few (tables_of c.args.c.now.tables) c.args.name.now c.in_ok-k.k c.requires s in
     search rules
 
 pub overflow_cast-k : goal.overflow_cast-k
 overflow_cast-k c =
     let s = sym c.find_program.ensures ∙ found_some _ _ _ _ c.ok_or.ensures.value c.in_ok-k.was in
-    let few : c.in_ok-k.k < 16 = program_few (tables_of c.args.c.now.tables) c.args.name.now c.in_ok-k.k c.requires.1 s in
+    let few : c.in_ok-k.k < 16 = program_few (tables_of c.args.c.now.tables) c.args.name.now c.in_ok-k.k c.requires s in
     search rules
-
-pub returns : goal.returns
-returns c =
-    let s = sym c.find_program.ensures ∙ found_some _ _ _ _ c.ok_or.ensures.value c.in_ok-k.was in
-    program_found _ _ _ c.args.name.now _ _ _ s c.in_scope.ensures

@@ -2,9 +2,7 @@
 use Rattle.std.specs.Prelude.{refl}
 use Rattle.laws.specs.Tests.{some_of}
 use Rattle.std.proofs.Common.{rules, tests, ◌∙◌, ap}
-use Rattle.std.proofs.lemmas.Iterator.{YieldsList-from_slice}
-use Rattle.std.proofs.lemmas.Iterator.Search.{any_from_yields_List}
-use Rattle.laws.proofs.Chains.{any_is}
+use Rattle.laws.proofs.Chains.{any_slice}
 use Rattle.rows.proofs.Laws.{other_length_by, behind}
 use Rattle.rows.proofs.row.other_length.Goals as goal
 
@@ -15,6 +13,5 @@ pub returns-else-name_length : goal.returns-else-name_length
 unfolding some_of
 returns-else-name_length c =
     let rest = c.iter.result.rest.now in
-    let any = any_is (λ p. behind c.args.name.now p.now) rest c.any.result
-    (any_from_yields_List _ _ _ _ c.any.ensures.ran (YieldsList-from_slice rest cc) (λ x b q k. search (rules, tests))) in
+    let any = any_slice (λ p. behind c.args.name.now p.now) rest c.any.ensures.ran (cc) (λ x b q k. search (rules, tests)) in
     rw (other_length_by, ← c.name_length.ensures, c.if-name_length.false) (any ∙ ap (some_of (λ p. behind c.args.name.now p.now)) c.iter.ensures.rest)

@@ -5,11 +5,11 @@ use Rattle.model.proofs.Lent.{some-valid}
 use Rattle.services.proofs.targets.tag_service.Goals as goal
 
 pub tag_target-requires : goal.tag_target-requires
-tag_target-requires c = (c.requires.decodes, some-valid _ _ _ c.requires.judged refl)
+tag_target-requires c = (c.args.q.now.decodes, some-valid _ _ _ c.requires.judged refl)
 
 pub serve-requires : goal.serve-requires
 serve-requires c = (
-  tag_aimed _ _ _ _ _ c.requires.judged c.requires.decodes _ _ c.in-Ok.is c.tag_target.ensures,
+  tag_aimed _ _ _ _ _ c.requires.judged c.args.q.now.decodes _ _ c.in-Ok.is c.tag_target.ensures,
   c.requires.room,
 )
 

@@ -7,4 +7,4 @@ page_of-requires c = few_scopes _ _ c.requires.tables
 
 pub returns-in_default-clause-whole : goal.returns-in_default-clause-whole
 returns-in_default-clause-whole c =
-    list_turned _ _ _ _ (rw c.in_default.is at c.page_of.ensures) c.first_page-status.ensures.status c.first_page-status.ensures.buffer
+    list_turned _ _ _ _ (rw c.in_default.is at c.page_of.ensures) c.first_status-status.ensures.status c.first_status-status.ensures.buffer

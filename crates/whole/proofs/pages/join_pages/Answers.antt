@@ -3,7 +3,7 @@ use Rattle.std.proofs.Common.{rules, arith, sym, refl, ◌∙◌}
 use Rattle.model.proofs.Lent.{some-valid}
 use Rattle.whole.proofs.Paging.{joins-behind, due-some, joins-few, joins-none, joins_fit, joins_further}
 use Rattle.whole.proofs.Paging.{joins_on, joins_last, joins_left, page_walked, page_stays, starts_known}
-use Rattle.whole.proofs.Paging.{starts_nowhere, turn_askable, tables_asked}
+use Rattle.whole.proofs.Paging.{starts_nowhere, turn_taken, tables_asked}
 use Rattle.whole.proofs.Walking.{due-few}
 use Rattle.whole.proofs.pages.join_pages.Goals as goal
 
@@ -13,7 +13,7 @@ loop-end-init c = (refl, (refl, refl), refl, joins-none _ _ _ c.requires.2)
 pub join_page-requires : goal.join_page-requires
 join_page-requires c =
     let l = c.loop-end.invariant in (
-      turn_askable _ _ c.requires.0 l.0 l.1.1,
+      turn_taken _ _ c.requires.0 l.0 l.1.1,
       c.requires.1,
       l.3.room_for,
       omega (arith, joins_fit l.3 c.requires.3, l.2),

@@ -5,7 +5,7 @@ use Rattle.whole.proofs.walks.measure_all.Goals as goal
 
 pub loop-next-init : goal.loop-next-init
 loop-next-init c =
-    (c.walk_from-walk.ensures.0, (refl, refl), λ o m v. rw c.walk_from-walk.ensures.1 (measure_none _ _ (due-few _ m v _ _ _)))
+    (c.begin-walk.ensures.used, (refl, refl), λ o m v. rw c.begin-walk.ensures.bound (measure_none _ _ (due-few _ m v _ _ _)))
 
 pub loop-next-preserved : goal.loop-next-preserved
 loop-next-preserved c =

@@ -2,5 +2,5 @@
 use Rattle.std.proofs.Common.{length, ◌-◌}
 use Rattle.worked.proofs.path_steps.show.Given as goal
 
-abbrev pub decreases-loop-at : goal.decreases-loop-at
-decreases-loop-at g l = length l.path - l.at
+abbrev pub decreases-loop-first : goal.decreases-loop-first
+decreases-loop-first g l = length l.path - l.at

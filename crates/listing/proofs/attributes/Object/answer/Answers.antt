@@ -5,9 +5,6 @@ use Rattle.listing.specs.Numbers.{word, numbers_in}
 use Rattle.listing.proofs.Objects.{list-missing, list-large, list_sent}
 use Rattle.listing.proofs.attributes.Object.answer.Goals as goal
 
-pub returns-in_default : goal.returns-in_default
-returns-in_default c = list-missing _ _ c.args.self.now _ _ c.in_default.ensures c.refuse.ensures
-
 pub returns-then-limit-entries_size : goal.returns-then-limit-entries_size
 returns-then-limit-entries_size c =
     list-large _ _ c.args.self.now _ _ (numbers_in c.in-Some.numbers) c.in-Some.ensures

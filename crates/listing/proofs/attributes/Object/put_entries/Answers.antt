@@ -6,18 +6,18 @@ use Rattle.listing.proofs.attributes.Object.put_entries.Goals as goal
 
 pub put_entry-used-requires : goal.put_entry-used-requires
 put_entry-used-requires c =
-    put_fits _ _ (entries c.args.self.now) _ _ _ _ _ c.args.buf.now _ c.loop-pair.invariant c.loop-pair-test.true c.word.ensures
+    put_fits _ _ (entries c.args.self.now) _ _ _ _ _ c.args.buf.now _ c.loop-pair.invariant c.loop-pair-test.true c.from_le_bytes.ensures
     (omega (arith, c.requires, c.loop-pair.auto.buf))
 
 pub overflow_add-used : goal.overflow_add-used
 overflow_add-used c =
-    let next = sum_next _ _ (entries c.args.self.now) _ _ _ _ _ _ c.loop-pair.invariant.0 c.loop-pair-test.true c.word.ensures
+    let next = sum_next _ _ (entries c.args.self.now) _ _ _ _ _ _ c.loop-pair.invariant.0 c.loop-pair-test.true c.from_le_bytes.ensures
     c.put_entry-used.ensures.length_is in
     search rules
 
 pub loop-pair-preserved : goal.loop-pair-preserved
 loop-pair-preserved c =
-    put_next _ _ (entries c.args.self.now) _ _ _ _ _ c.args.buf.now _ c.loop-pair.invariant c.loop-pair-test.true c.word.ensures
+    put_next _ _ (entries c.args.self.now) _ _ _ _ _ c.args.buf.now _ c.loop-pair.invariant c.loop-pair-test.true c.from_le_bytes.ensures
     (omega (arith, c.requires, c.loop-pair.auto.buf)) _ _ c.put_entry-used.ensures
 
 pub returns-clause-end : goal.returns-clause-end

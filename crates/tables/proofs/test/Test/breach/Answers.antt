@@ -1,22 +1,18 @@
--- The loop has told nothing of the rows before i; what is told of row i first is what the test tells.
+-- What is told is what `row_breach` tells first of the other table's rows, one after the other.
 use Rattle.std.specs.Prelude.{refl}
-use Rattle.std.proofs.Common.{rules}
-use Rattle.laws.proofs.First.{first_end}
-use Rattle.tables.proofs.Steps.{goes_on, stops, others_start}
+use Rattle.std.proofs.Common.{rules, length}
+use Rattle.std.proofs.lemmas.Iterator.{YieldsList-from_range}
+use Rattle.laws.proofs.Mapped.{first_mapped}
+use Rattle.model.specs.Tables.{tables_of}
+use Rattle.definition.specs.Breach.{row_breach}
+use Rattle.tables.specs.Rules.{told_of, breach_of}
+use Rattle.tables.specs.Tests.{test_of}
+use Rattle.tables.proofs.Steps.{others_told}
 use Rattle.tables.proofs.test.Test.breach.Goals as goal
 
-pub loop-i-init : goal.loop-i-init
-loop-i-init c = others_start _ _ refl
-
-pub returns-then-is_some : goal.returns-then-is_some
-returns-then-is_some c =
-    stops _ _ _ _ c.loop-i.invariant (search rules) _ c.row_breach-here.ensures _ c.is_some.ensures
-    c.if-is_some.true
-
-pub loop-i-preserved : goal.loop-i-preserved
-loop-i-preserved c =
-    goes_on _ _ _ _ c.loop-i.invariant (search rules) _ c.row_breach-here.ensures _ c.is_some.ensures
-    c.if-is_some.false refl
-
 pub returns : goal.returns
-returns c = first_end _ _ _ _ c.loop-i.invariant (search rules)
+returns c =
+    let x = test_of c.args.self (tables_of c.args.t.now) (length c.args.memory.now) in
+    others_told x _ _ c.others.ensures
+    (first_mapped (row_breach x) told_of breach_of c.find_map.ensures.runs (YieldsList-from_range 0 c.others.result _ refl refl)
+    (λ i o q k. search rules) refl (λ b. refl))

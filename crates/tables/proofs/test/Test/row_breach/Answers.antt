@@ -1,24 +1,16 @@
--- The loop has told nothing of the rows before j; the first row at which the test does not hold is told, as the definition tells it.
-use Rattle.std.specs.Prelude.{refl}
-use Rattle.std.proofs.Common.{rules, length}
-use Rattle.laws.proofs.First.{first_end}
+-- The first row at which the test does not hold is told, as the definition tells it.
+use Rattle.std.specs.Prelude.{refl, not}
+use Rattle.std.proofs.Common.{rules, tests, length}
+use Rattle.std.proofs.lemmas.Iterator.{YieldsList-from_range}
+use Rattle.std.proofs.lemmas.Iterator.Search.{find_from_yields_List}
 use Rattle.model.specs.Tables.{tables_of}
 use Rattle.tables.specs.Tests.{test_of}
-use Rattle.tables.proofs.Steps.{rows_start, row_passes, row_breaks}
+use Rattle.tables.proofs.Steps.{rows_told}
 use Rattle.tables.proofs.test.Test.row_breach.Goals as goal
 
-pub loop-j-init : goal.loop-j-init
-loop-j-init c = rows_start _ _ _ _ c.span-start.ensures.start refl
-
-pub returns-then-not-holds : goal.returns-then-not-holds
-returns-then-not-holds c =
-    let x = test_of c.args.self (tables_of c.args.t.now) (length c.args.memory.now) in
-    row_breaks x _ _ (x.upto c.args.i) _ c.loop-j.invariant (search rules) _ c.holds.ensures _ c.if-not-holds.true (c.tell.ensures _ _ c.requires)
-
-pub loop-j-preserved : goal.loop-j-preserved
-loop-j-preserved c =
-    let x = test_of c.args.self (tables_of c.args.t.now) (length c.args.memory.now) in
-    row_passes x _ _ (x.upto c.args.i) _ c.loop-j.invariant (search rules) _ c.holds.ensures c.if-not-holds.false refl
-
 pub returns : goal.returns
-returns c = first_end _ _ _ _ c.loop-j.invariant (search rules)
+returns c =
+    let x = test_of c.args.self (tables_of c.args.t.now) (length c.args.memory.now) in
+    rows_told x c.args.i _ _ c.find.result _ c.span.ensures.start c.span.ensures.end
+    (find_from_yields_List (λ j. not (x.holds c.args.i j)) _ _ _ c.find.ensures.ran (YieldsList-from_range c.span.result.start c.span.result.end _ refl refl)
+    (λ j b q k. search (rules, tests))) c.map.ensures.cases (λ j b q. search rules)

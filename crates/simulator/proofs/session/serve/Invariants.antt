@@ -1,8 +1,0 @@
--- A turn keeps all lengths, so the tables stay valid for the memory; the place stays in the input.
-use Rattle.std.proofs.Common.{◌≡◌, ◌≤◌, length}
-use Rattle.simulator.proofs.session.serve.Given as goal
-
-abbrev pub invariant-loop : goal.invariant-loop
-invariant-loop g l =
-    (length l.memory ≡ length l.initial.memory) × (length l.input ≡ 262144) × (length l.request ≡ 65535) × (length l.buf ≡ 65535) ×
-    (l.place.at ≤ 262144)
