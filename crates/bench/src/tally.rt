@@ -48,7 +48,7 @@ impl<'a, P: Print> Tally<'a, P> {
         println!(self.to; "{name}: DIFFERS{got}, expected{expected}")
     }
 
-    /// Tells bytes, and the expected ones if they are others.
+    /// Tells bytes, and the expected ones if they are others; `==` compares them.
     pub fn bytes(&mut self, name: &str, got: &[u8], expected: &[u8]) -> io::Result<()> {
         self.compare(name, Hex(got), Hex(expected))
     }

@@ -16,6 +16,7 @@ pub enum Names {
     OfTags,
 }
 
+// `Nothing` is one of the edits, which are a table: an `Option` would stand in each of its lines.
 #[derive(Clone, Copy)]
 pub enum Edit {
     Nothing,

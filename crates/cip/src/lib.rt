@@ -106,7 +106,7 @@ pub fn u32_at(s: &[u8], at: usize) -> u32
     u32::from_le_bytes([s[at], s[at + 1], s[at + 2], s[at + 3]])
 }
 
-/// The low 16 bits of a number.
+/// The low 16 bits of a number. `as` alone is a conversion whose fact each caller would need.
 pub fn low16(n: usize) -> u16
     ensures { result ≡ n % 65536 }
 {
@@ -161,6 +161,7 @@ pub fn put_header(buf: &mut [u8], service: u8, s: Status) -> usize
 }
 
 /// Zeros after the `used` bytes of a reply, up to max(8, limit); returns `used`.
+// Here and wherever a reply is made, limit and buffer are parameters: what takes a struct of them by `&mut` could put another buffer in.
 pub fn finish(buf: &mut [u8], limit: usize, used: usize) -> usize
     requires { (used ≤ room limit) × (room limit ≤ length buf.old) }
     ensures { (result ≡ used) × (buf.new ≡ zeroed used (room limit) buf.old) }

@@ -10,7 +10,7 @@ use crate::Status;
 /// The header of a reply without an extended word.
 pub const HEADER: usize = 4;
 
-/// A status and its data.
+/// A status and its data. A type for the statuses without a word, of which the clause is, would be a second enum of statuses.
 pub fn send(bytes: &[u8], service: u8, status: Status, limit: usize, buf: &mut [u8]) -> usize
     requires { (4 + length bytes.now ≤ room limit) × (room limit ≤ length buf.old) × (has_word (status_of status) ≡ false) }
     ensures { Laid limit (reply service (status_of status) bytes.now) buf.old result buf.new }

@@ -20,7 +20,7 @@ use model::Tables;
 use whole::pages::Listing;
 use whole::requests::Read;
 
-/// Eight slices as one table set.
+/// Eight slices, as C lends them, as one table set.
 fn lent<'a>(
     structures: &'a [[u32; 10]],
     members: &'a [[u32; 9]],

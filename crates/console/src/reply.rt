@@ -14,7 +14,7 @@ impl<'a> fmt::Display for Hex<'a> {
     }
 }
 
-/// CIP Volume 1, Appendix B.
+/// CIP Volume 1, Appendix B. A reply's code is a byte, and any: no enum has all.
 fn general(code: u8) -> &'static str {
     match code {
         0x00 => "success",
@@ -34,7 +34,7 @@ fn general(code: u8) -> &'static str {
     }
 }
 
-/// 1756-PM020's extended words.
+/// 1756-PM020's extended words. A reply's word may be any.
 fn extended(word: u16) -> &'static str {
     match word {
         0x2100 => " 0x2100, access denied",

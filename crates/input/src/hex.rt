@@ -46,7 +46,7 @@ fn is_blank(c: u8) -> bool
     matches!(c, b' ' | b'\t' | b'\r')
 }
 
-/// A hex digit's value.
+/// A hex digit's value, of a byte and in the definition's word: `to_digit` is of a `char`.
 fn digit(c: u8) -> Option<u32>
     ensures { result ≡ digit_of c }
 {

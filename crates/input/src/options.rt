@@ -2,7 +2,7 @@
 ghost use Rattle.std.specs.Prelude.{◌≡◌, false, None};
 ghost use Rattle.input.specs.Options.{is_dashed, option_of, word_of, taken_by};
 
-/// What one word is.
+/// What one word is. A word that is too long or unknown is told by its place, as the others are taken by theirs.
 #[derive(Clone, Copy, Debug, PartialEq, Eq)]
 pub enum Argument {
     Help,

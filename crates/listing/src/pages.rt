@@ -64,6 +64,8 @@ impl<'a> Page<'a> {
         }
     }
 
+    // `SomeValid`, here and in `whole`: the tables lent are those of some valid set. The rest of it is lent to nobody, so no type holds it.
+
     /// The entry of the least ID not below a bound. Tags mostly stand by ascending ID: after one, the tag behind it is tried first.
     #[tactic(auto, using(crate::proofs::Paged::inside))]
     pub fn step(&self, t: &Tables, walk: Walk, limit: usize, buf: &mut [u8]) -> Step

@@ -23,6 +23,7 @@ use model::{Tables, lookup, shapes, types};
 pub struct Symbol<'a> {
     pub id: u32,
     pub name: &'a [u8],
+    // words that go into replies as they are
     pub kind: u32,
     pub control: u32,
     pub size: u32,

@@ -23,7 +23,7 @@ pub enum Refusal {
 }
 
 impl Refusal {
-    /// Document 01's number.
+    /// Document 01's number: the variant's own, with the clause that callers cite.
     pub fn number(self) -> u64
         ensures number { result ≡ number_of self }
         ensures small { result ≤ 4 }

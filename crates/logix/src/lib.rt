@@ -21,6 +21,8 @@ use model::Controller;
 use parts::PartReply;
 
 /// The answer to a message.
+// That the tables are judged is a clause here and wherever they are lent with tag memory: a type for judged tables would leave one as long, of the
+// memory's length. A limit is a `usize`, as the entry takes it.
 #[cycle(dispatch_multi_service_part)]
 pub fn dispatch(
     c: &Controller,

@@ -9,7 +9,8 @@ use crate::columns::{
     TAG_NAME_START, TAG_SCOPE,
 };
 
-/// A part of a store or of a table; what runs past its end is cut off.
+/// A part of a store or of a table; what runs past its end is cut off. Start and length are two columns of a
+/// row, which may say anything, so they are no range yet.
 pub fn part_of<T>(store: &[T], start: u32, n: u32) -> &[T]
     ensures { result.now ≡ take n (drop start store.now) }
 {

@@ -185,7 +185,7 @@ pub fn is_program_name(name: &[u8]) -> bool
 
 // ---- tag paths and objects
 
-/// The tag path test on the segments from a position on, all of which decode.
+/// The tag path test on the segments from a position on, all of which decode. It is handed a path before and behind its program's name.
 pub fn is_tag_path(path: &[u8], at: usize) -> bool
     requires { is_some (segments_from path.now at) ≡ true }
     ensures { result ≡ tag_path_from path.now at }

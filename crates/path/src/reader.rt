@@ -15,7 +15,7 @@ pub struct Reader<'a> {
 }
 
 impl<'a> Reader<'a> {
-    /// A reader that stands at the path's start.
+    /// A reader that stands at the path's start. It moves and may stand anywhere; `resolve::rest::Rest` is a value, and decodes.
     pub fn new(path: &'a [u8]) -> Reader<'a>
         ensures path { result.path ≡ path.entry }
         ensures at { result.at ≡ 0 }
@@ -99,6 +99,7 @@ pub fn nth_segment<'a>(path: &'a [u8], i: usize) -> Option<Step<'a>>
         return None;
     }
     let mut r = Reader::new(path);
+    // turns, and no index
     for _ in 0..i {
         r.segment()?;
     }

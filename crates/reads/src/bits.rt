@@ -2,7 +2,7 @@
 ghost use Rattle.std.specs.Prelude.{◌≡◌, ◌^◌, ◌<◌};
 ghost use Rattle.definition.specs.Read.{bit_of};
 
-/// The value of bit k.
+/// The value of bit k. That it is one of a byte's is known where a target's bit was found not to be 8, and no type of a number says it.
 pub fn bit_value(k: u32) -> u8
     requires { k < 8 }
     ensures { result ≡ 2 ^ k }

@@ -19,7 +19,7 @@ impl<'a> Rest<'a> {
     ghost use Rattle.definition.specs.Segment.{segments};
     ghost use Rattle.resolve.specs.Paths.{left, FirstSegment, FirstElement, FirstObject};
 
-    /// The whole of a path.
+    /// The whole of a path. No `Reader`, which moves and may stand anywhere.
     pub fn of(path: &'a [u8]) -> Rest<'a>
         requires { is_some (segments path.now) ≡ true }
         ensures { segments path.now ≡ Some (left result) }

@@ -88,7 +88,7 @@ pub fn within(a: u32, b: u32, n: usize) -> bool
     a as usize + b as usize <= n
 }
 
-/// A name that stands in its store and is one.
+/// A name that stands in its store and is one, by two columns of its row, which may say anything.
 #[tactic(auto, using(laws::proofs::Chain::tests), unfolding(crate::specs::Judged::name_judged))]
 pub fn name_judged(store: &[u8], start: u32, n: u32) -> bool
     ensures { result ≡ name_judged store.now start n }
@@ -107,7 +107,7 @@ pub fn is_type(bound: usize, ty: u32) -> bool
     types::index_of(ty) < bound
 }
 
-/// `start` plus `n` times `size`, which fits 64 bits.
+/// `start` plus `n` times `size`, which fits 64 bits: three columns, and no range.
 fn end_of(start: u32, n: u32, size: u32) -> u64
     ensures { result ≡ start + n * size }
 {

@@ -34,6 +34,8 @@ pub fn is_tag_service(service: u8) -> bool
     is_read(service) || is_write(service)
 }
 
+// That a target stands in tag memory (`Aimed`) is said of the memory that is lent, which no type of a target can do.
+
 /// Decodes what a read is asked for, and reads: elements from an offset on, which is 0 where the request brings none.
 fn serve_read(
     t: &Tables,

@@ -22,7 +22,7 @@ pub fn atomic(code: u32) -> Option<&'static str> {
     })
 }
 
-/// 1 is an access that nothing refuses, as 0 is.
+/// 1 is an access that nothing refuses, as 0 is. The number is a row's, which may be any.
 pub fn access(n: u32) -> &'static str {
     match n {
         0 => "read/write",

@@ -25,7 +25,7 @@ pub struct Head {
     pub memory: usize,
 }
 
-/// Why an image is not taken.
+/// Why an image is not taken: the error of a `Result`.
 #[derive(Clone, Copy)]
 enum Fault {
     NoMagic,

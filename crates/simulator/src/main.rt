@@ -61,7 +61,7 @@ fn serve_file(
     }
 }
 
-/// How many arguments there are, with the program's name.
+/// How many arguments there are, with the program's name. They are asked for by number, as the system hands them out.
 fn arg_count(rt: &impl Env) -> usize {
     let mut text = [0u8; LONGEST];
     for i in 0..usize::MAX {

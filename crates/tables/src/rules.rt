@@ -40,6 +40,7 @@ pub enum Rule {
 }
 
 impl Rule {
+    /// The variant's own number, with the clause that callers cite.
     pub fn number(self) -> u32
         ensures { result ≡ rule_number self }
     {
@@ -60,7 +61,7 @@ pub enum Table {
 }
 
 impl Table {
-    /// As C has it; 0 is no table.
+    /// As C has it, the variant's own, with the clause that callers cite; 0 is no table.
     pub fn number(self) -> u32
         ensures { result ≡ table_number self }
     {

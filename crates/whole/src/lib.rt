@@ -58,7 +58,7 @@ fn word_in(reply: &[u8]) -> Option<u16>
     Some(cip::u16_at(reply, 4))
 }
 
-/// Why nothing was joined.
+/// Why nothing was joined: the error of a `Result`.
 #[derive(Clone, Copy)]
 pub enum Unjoined {
     /// The lent buffer is shorter than these bytes.
@@ -114,7 +114,7 @@ fn read_sendable(
 
 /// Reads all of what a path and an element count select into `out`: sends reads at the number of bytes
 /// received and joins their data until status 0, and returns how many bytes they are; or says why not. `buf` is the reply buffer: the last
-/// reply stays in it.
+/// reply stays in it. A read and a list are two functions for C, each held to a definition of its own.
 pub fn read_whole(
     c: &Controller,
     memory: &mut [u8],

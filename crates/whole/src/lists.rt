@@ -102,7 +102,7 @@ fn list_askable(
 
 /// Lists all symbols of a scope into `out`: asks for pages, each from the last listed ID plus one, and joins their entries until
 /// status 0, and returns how many bytes they are; or says why not. `buf` is the reply buffer: the last reply stays in it, and where nothing
-/// is sent it is as it was.
+/// is sent it is as it was. See `read_whole` for why it stands beside that.
 pub fn list_whole(
     c: &Controller,
     memory: &mut [u8],

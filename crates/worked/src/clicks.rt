@@ -24,7 +24,7 @@ fn left(to: &impl Print, memory: &[u8], start: usize, size: usize) -> io::Result
     show(to, "left", &memory[start..start + size])
 }
 
-/// The first request with the masks of the second joined to its own; the masks are the last bytes of both.
+/// The first request with the masks of the second joined to its own, by `join_at`; the masks are the last bytes of both.
 fn joined(first: &[u8], next: &[u8], size: usize) -> [u8; 40]
     requires { (2 * size ≤ length first.now) × (2 * size ≤ length next.now) × (length first.now ≤ 40) }
 {
