@@ -4,7 +4,7 @@ ghost use Rattle.definition.specs.Pallet.{pallet, pallet_flags};
 ghost use Rattle.bench.specs.Sent.{Sends};
 
 use crate::controller;
-use crate::controller::Tags;
+use crate::controller::{Example, Tags};
 use crate::tally::Tally;
 use pallet::MEMORY;
 use std::io;
@@ -23,15 +23,9 @@ pub fn send(memory: &mut [u8], request: &[u8], limit: usize, buf: &mut [u8]) -> 
 }
 
 /// A line of the bench that leaves tag memory as it was.
-pub fn line<P: Print>(
-    t: &mut Tally<P>,
-    name: &str,
-    request: &[u8],
-    limit: usize,
-    expected: &[u8],
-) -> io::Result<()> {
+pub fn line<P: Print>(t: &mut Tally<P>, line: Example) -> io::Result<()> {
     let mut memory = MEMORY;
-    TAGS.compare(t, &mut memory, name, request, limit, expected)?;
+    TAGS.compare(t, &mut memory, line)?;
     if memory == MEMORY {
         return Ok(());
     }
@@ -39,15 +33,8 @@ pub fn line<P: Print>(
 }
 
 /// A line of the bench that says what tag memory is after it.
-pub fn storing<P: Print>(
-    t: &mut Tally<P>,
-    name: &str,
-    request: &[u8],
-    limit: usize,
-    expected: &[u8],
-    after: &[u8],
-) -> io::Result<()> {
+pub fn storing<P: Print>(t: &mut Tally<P>, line: Example, after: &[u8]) -> io::Result<()> {
     let mut memory = MEMORY;
-    TAGS.compare(t, &mut memory, name, request, limit, expected)?;
+    TAGS.compare(t, &mut memory, line)?;
     t.bytes("  tag memory after it", &memory, after)
 }

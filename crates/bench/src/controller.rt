@@ -32,6 +32,15 @@ pub fn send(
     length_of(pallet::with_tags(tags, tag_names, memory, request, limit, buf))
 }
 
+/// A line of a bench: how it is called, a request with its reply's limit, and the reply that is expected.
+#[derive(Clone, Copy)]
+pub struct Example<'a> {
+    pub name: &'a str,
+    pub request: &'a [u8],
+    pub limit: usize,
+    pub expected: &'a [u8],
+}
+
 /// The tags of a bench, and their names.
 #[derive(Clone, Copy)]
 pub struct Tags<'a> {
@@ -45,13 +54,17 @@ impl<'a> Tags<'a> {
         self,
         t: &mut Tally<P>,
         memory: &mut [u8],
-        name: &str,
-        request: &[u8],
-        limit: usize,
-        expected: &[u8],
+        line: Example,
     ) -> io::Result<()> {
         let mut buf = [0xEE; 110];
-        let n = send(self.rows, self.names, memory, request, limit, &mut buf);
-        t.bytes(name, tally::first(&buf, n), expected)
+        let n = send(
+            self.rows,
+            self.names,
+            memory,
+            line.request,
+            line.limit,
+            &mut buf,
+        );
+        t.bytes(line.name, tally::first(&buf, n), line.expected)
     }
 }

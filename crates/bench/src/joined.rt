@@ -3,44 +3,50 @@ use crate::ask;
 use crate::tally::{Tally, first};
 use std::io;
 
-/// An exchange goes on after status 0x06 and ends with status 0: the bytes joined so far.
-#[derive(Drop)]
-enum Progress {
-    More(usize),
-    Done(usize),
-}
-
+/// The data of an exchange's replies, joined: its bytes are the first of the buffer. It ends with a reply of status 0 and goes on after one of 0x06.
 #[derive(Drop)]
 struct Joined {
-    bytes: usize,
+    buffer: [u8; 64],
+    len: usize,
     replies: usize,
+    ended: bool,
 }
 
-/// Joins a reply's data behind the `at` bytes received; none where it breaks off.
-fn join(joined: &mut [u8], at: usize, status: u8, data: &[u8]) -> Option<Progress> {
-    let end = at.checked_add(data.len())?;
-    joined.get_mut(at..end)?.copy_from_slice(data);
-    match status {
-        0 => Some(Progress::Done(end)),
-        6 => Some(Progress::More(end)),
-        _ => None,
+impl Joined {
+    /// Before the first reply.
+    fn new() -> Joined {
+        Joined {
+            buffer: [0; 64],
+            len: 0,
+            replies: 0,
+            ended: false,
+        }
     }
-}
 
-/// Sends a request and joins what follows the reply's header.
-fn exchange(
-    request: &[u8],
-    limit: usize,
-    header: usize,
-    joined: &mut [u8],
-    at: usize,
-) -> Option<Progress> {
-    let mut memory = pallet::MEMORY;
-    let mut space = [0xEE; 110];
-    let n = ask::send(&mut memory, request, limit, &mut space);
-    let reply = first(&space, n);
-    let status = *reply.get(2)?;
-    join(joined, at, status, reply.get(header..)?)
+    fn bytes(&self) -> &[u8] {
+        first(&self.buffer, self.len)
+    }
+
+    /// Joins a reply's data behind the bytes received; none where it breaks off.
+    fn join(mut self, status: u8, data: &[u8]) -> Option<Joined> {
+        let at = self.len;
+        let end = at.checked_add(data.len())?;
+        self.buffer.get_mut(at..end)?.copy_from_slice(data);
+        self.len = end;
+        self.replies = self.replies.wrapping_add(1);
+        self.ended = status == 0;
+        matches!(status, 0 | 6).then_some(self)
+    }
+
+    /// Sends a request and joins what follows the reply's header.
+    fn exchange(self, request: &[u8], limit: usize, header: usize) -> Option<Joined> {
+        let mut memory = pallet::MEMORY;
+        let mut space = [0xEE; 110];
+        let n = ask::send(&mut memory, request, limit, &mut space);
+        let reply = first(&space, n);
+        let status = *reply.get(2)?;
+        self.join(status, reply.get(header..)?)
+    }
 }
 
 /// The last entry's ID; an entry has an ID, its name's length, the name and a type.
@@ -75,58 +81,71 @@ impl Question {
         }
     }
 
-    /// 0x52 of all `Rows`, or 0x55 of the controller scope's names and types, from a start.
-    fn ask(self, start: u32, limit: usize, joined: &mut [u8], at: usize) -> Option<Progress> {
+    /// 0x52 of all `Rows`, or 0x55 of the controller scope's names and types, from where the next request starts.
+    fn ask(self, limit: usize, joined: Joined) -> Option<Joined> {
+        let start = self.next_start(joined.bytes());
         match self {
             Question::Rows => {
                 let mut request = *b"\x52\x03\x91\x04Rows\x0A\x00\x00\x00\x00\x00";
                 cip::put_u32(&mut request, 10, start);
-                exchange(&request, limit, 6, joined, at)
+                joined.exchange(&request, limit, 6)
             }
             Question::Symbols => {
                 let mut request =
                     *b"\x55\x04\x20\x6B\x26\x00\x00\x00\x00\x00\x02\x00\x01\x00\x02\x00";
                 cip::put_u32(&mut request, 6, start);
-                exchange(&request, limit, 4, joined, at)
+                joined.exchange(&request, limit, 4)
             }
         }
     }
 
-    /// Asks until a reply has status 0, at most 64 times; an exchange that breaks off counts no reply.
-    fn join_all(self, limit: usize, joined: &mut [u8]) -> Joined {
-        let mut at = 0;
-        for replies in 1..=64 {
-            let start = self.next_start(first(joined, at));
-            match self.ask(start, limit, joined, at) {
-                Some(Progress::More(n)) => at = n,
-                Some(Progress::Done(bytes)) => return Joined { bytes, replies },
-                None => break,
+    /// Asks until a reply has status 0, at most 64 times; none where the exchange breaks off or does not end.
+    fn join_all(self, limit: usize) -> Option<Joined> {
+        let mut joined = Joined::new();
+        for _ in 0..64 {
+            joined = self.ask(limit, joined)?;
+            if joined.ended {
+                return Some(joined);
             }
         }
-        Joined {
-            bytes: 0,
-            replies: 0,
-        }
+        None
     }
+}
+
+/// An exchange gives these bytes in this many replies; nothing in none where it breaks off.
+fn compare<P: Print>(
+    t: &mut Tally<P>,
+    name: &str,
+    got: Option<Joined>,
+    expected: &[u8],
+    replies: usize,
+) -> io::Result<()> {
+    let Some(joined) = got else {
+        t.bytes(name, &[], expected)?;
+        return t.replies(0, replies);
+    };
+    t.bytes(name, joined.bytes(), expected)?;
+    t.replies(joined.replies, replies)
 }
 
 /// A continued read gives the bytes of `Rows` in tag memory, in this many replies.
 fn read<P: Print>(t: &mut Tally<P>, name: &str, limit: usize, replies: usize) -> io::Result<()> {
     let memory = pallet::MEMORY;
-    let mut joined = [0; 64];
-    let j = Question::Rows.join_all(limit, &mut joined);
-    t.bytes(name, first(&joined, j.bytes), &memory[4..44])?;
-    t.replies(j.replies, replies)
+    let joined = Question::Rows.join_all(limit);
+    compare(t, name, joined, &memory[4..44], replies)
 }
 
 /// Continued pages give the entries of one page at a large limit, in this many replies.
 fn page<P: Print>(t: &mut Tally<P>, name: &str, limit: usize, replies: usize) -> io::Result<()> {
-    let mut whole = [0; 64];
-    let w = Question::Symbols.join_all(100, &mut whole);
-    let mut joined = [0; 64];
-    let j = Question::Symbols.join_all(limit, &mut joined);
-    t.bytes(name, first(&joined, j.bytes), first(&whole, w.bytes))?;
-    t.replies(j.replies, replies)
+    let whole = Question::Symbols.join_all(100);
+    let expected = whole.as_ref().map_or(&[][..], Joined::bytes);
+    compare(
+        t,
+        name,
+        Question::Symbols.join_all(limit),
+        expected,
+        replies,
+    )
 }
 
 pub fn reads<P: Print>(t: &mut Tally<P>) -> io::Result<()> {

@@ -21,12 +21,7 @@ fn main(rt: HostRuntime) -> io::Result<()> {
     segments::paths(&to)?;
     sets::judged(&to)?;
     let mut t = Tally::new(&to);
-    lines::reads(&mut t)?;
-    lines::fragments(&mut t)?;
-    lines::refusals(&mut t)?;
-    lines::masked(&mut t)?;
-    lines::envelopes(&mut t)?;
-    lines::symbols(&mut t)?;
+    lines::all(&mut t)?;
     examples::all(&mut t)?;
     joined::reads(&mut t)?;
     joined::pages(&mut t)?;

@@ -1,10 +1,8 @@
 // The tags of 1756-PM020's examples. Their IDs, their order and the values before the writes are this project's choice.
 use crate::controller::Tags;
-use crate::tally::Tally;
-use std::io;
 
 /// `rate`, `CartonSize`, `ControlWord` and `parts`, each a DINT.
-const TAGS: [[u32; 12]; 4] = [
+const ROWS: [[u32; 12]; 4] = [
     [0, 0, 4, 1, 0xC4, 0, 0, 0, 1, 0, 0, 0],
     [0, 4, 10, 2, 0xC4, 0, 0, 0, 1, 0, 0, 4],
     [0, 14, 11, 3, 0xC4, 0, 0, 0, 1, 0, 0, 8],
@@ -13,20 +11,10 @@ const TAGS: [[u32; 12]; 4] = [
 
 const TAG_NAMES: [u8; 30] = *b"rateCartonSizeControlWordparts";
 
+pub const TAGS: Tags = Tags {
+    rows: &ROWS,
+    names: &TAG_NAMES,
+};
+
 /// `rate` 534, `CartonSize` 0, `ControlWord` 0x1F8 (bit 2 clear, bit 5 set), `parts` 42.
 pub const MEMORY: [u8; 16] = [0x16, 2, 0, 0, 0, 0, 0, 0, 0xF8, 1, 0, 0, 0x2A, 0, 0, 0];
-
-/// An example of the paper, over what the ones before it left in tag memory.
-pub fn example<P: Print>(
-    t: &mut Tally<P>,
-    memory: &mut [u8],
-    name: &str,
-    request: &[u8],
-    expected: &[u8],
-) -> io::Result<()> {
-    let tags = Tags {
-        rows: &TAGS,
-        names: &TAG_NAMES,
-    };
-    tags.compare(t, memory, name, request, 100, expected)
-}

@@ -1,4 +1,4 @@
-// Validity vectors: table sets that break each of T1 to T6, or the encoding of a row, in one place.
+// Validity vectors: table sets that break each of T1 to T6, or the encoding of a row, in one place. Some rows are the pallet bench's.
 use model::Tables;
 use model::columns::{
     MEMBER_ACCESS, MEMBER_BIT, MEMBER_HIDDEN, MEMBER_LENGTH, MEMBER_NAME_LENGTH, MEMBER_OFFSET,
@@ -6,23 +6,16 @@ use model::columns::{
     STRUCTURE_SIZE, STRUCTURE_TEMPLATE, TAG_ACCESS, TAG_ALIAS, TAG_ELEMENTS, TAG_ID, TAG_LENGTH_1,
     TAG_LENGTH_3, TAG_OFFSET, TAG_SCOPE, TAG_TYPE, TEMPLATE_LENGTH,
 };
+use pallet::{CELL_TYPE, COUNT, ROWS, RUN, TAG_NAMES};
 use std::io;
 
-const STRUCTURE: [u32; 10] = [0, 8, 0x100, 0x1234, 4, 0, 1, 0, 0, 8];
-
 const OUTER: [u32; 10] = [11, 5, 0x101, 0x4321, 12, 1, 2, 1, 0, 8];
-
-const RUN: [u32; 9] = [8, 3, 0xC1, 0, 0, 2, 0, 0, 0];
 
 const CELLS: [u32; 9] = [16, 5, 0x100, 2, 0, 8, 0, 0, 0];
 
 const LOCAL: [u32; 9] = [21, 5, 0xC4, 0, 8, 8, 0, 1, 3];
 
 const MAIN: [u32; 2] = [26, 4];
-
-const COUNT: [u32; 12] = [0, 0, 5, 1, 0xC4, 0, 0, 0, 1, 0, 0, 0];
-
-const ROWS: [u32; 12] = [0, 5, 4, 2, 0xC4, 10, 0, 0, 10, 0, 0, 4];
 
 const BITS: [u32; 12] = [1, 5, 4, 2, 0xD3, 64, 0, 0, 2, 0, 0, 44];
 
@@ -31,8 +24,6 @@ const CELL: [u32; 12] = [1, 9, 4, 0xFFFF_FFFF, 0x101, 0, 0, 0, 1, 0, 1, 52];
 const PROGRAM: [u32; 5] = [0, 30, 12, 9, 0x1068];
 
 const NAMES: [u8; 42] = *b"CellTypeRunOuterCellsLocalMainProgram:Main";
-
-const TAG_NAMES: [u8; 13] = *b"CountRowsCell";
 
 /// One table set: two structures, three members, a program, four tags, another symbol; 64 bytes of tag memory.
 #[derive(Clone, Copy)]
@@ -48,7 +39,7 @@ struct Set {
 }
 
 const SOUND: Set = Set {
-    inner: STRUCTURE,
+    inner: CELL_TYPE,
     outer: OUTER,
     run: RUN,
     cells: CELLS,

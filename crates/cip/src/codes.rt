@@ -1,4 +1,8 @@
-// The numbers of the wire, each in this one place: services, classes and type codes. Statuses are in `lib.rt`.
+// The numbers of the wire: services, classes and type codes. Statuses are in `lib.rt`, the first bytes of segments in `path::table`; a path that is
+// sent as it is stands where it is sent.
+
+/// The longest request, and the largest limit of a reply.
+pub const MOST: usize = 65535;
 
 /// Get Attribute List.
 pub const ATTRIBUTE_LIST: u8 = 0x03;

@@ -1,5 +1,5 @@
 // Replies that carry data, and refusals that item 20 may turn into 0x11.
-ghost use Rattle.std.specs.Prelude.{◌≡◌, false, ◌+◌, ◌-◌, ◌≤◌, length};
+ghost use Rattle.std.specs.Prelude.{◌≡◌, false, ◌+◌, ◌-◌, ◌≤◌, eqb, length, get_or};
 ghost use Rattle.definition.specs.Reply.{reply, fail, room};
 ghost use Rattle.definition.specs.Answer.{capped};
 ghost use Rattle.cip.specs.Statuses.{status_of, has_word};
@@ -36,4 +36,12 @@ pub fn space_of(limit: usize) -> usize
     ensures { result ≡ limit - 4 }
 {
     limit.saturating_sub(HEADER)
+}
+
+/// Whether a reply's general status, its third byte, is Success.
+pub fn is_success(reply: &[u8]) -> bool
+    requires { 3 ≤ length reply.now }
+    ensures { result ≡ eqb (get_or reply.now 2 0) 0 }
+{
+    reply[2] == 0
 }

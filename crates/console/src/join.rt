@@ -2,13 +2,12 @@
 ghost use Rattle.std.specs.Prelude.{◌<◌, ◌≤◌, length};
 
 use crate::lines;
+use crate::lines::{LONGEST, ROOM};
 use crate::reply::Hex;
+use cip::codes::MOST;
 use input::{clicks, hex};
 use std::io;
 use std::io::Read;
-
-/// One byte more than is read, for the last line's end.
-const MOST: usize = 262144;
 
 /// A row of masked writes: the bytes of its request, how many were joined to it, and the line of the first.
 #[derive(Clone, Copy)]
@@ -30,7 +29,7 @@ struct Line<'a> {
 /// The row that is not written out yet, and its request at the start of as many bytes as a request may have.
 #[derive(Drop)]
 struct Held {
-    bytes: [u8; 65535],
+    bytes: [u8; MOST],
     row: Option<Row>,
 }
 
@@ -73,9 +72,8 @@ impl Held {
     fn follow(&mut self, to: &impl Print, next: &[u8], line: Line) -> io::Result<()>
         requires { length next.now ≤ 65535 }
     {
-        let bytes = &mut self.bytes[..];
         if let Some(row) = self.row
-            && clicks::join(&mut bytes[..usize::from(row.len)], next)
+            && clicks::join(&mut self.bytes[..usize::from(row.len)], next)
         {
             self.row = Some(Row {
                 len: row.len,
@@ -93,7 +91,7 @@ impl Held {
         &mut self,
         to: &impl Print,
         err: &impl Print,
-        next: &mut [u8; 65535],
+        next: &mut [u8; MOST],
         line: Line,
     ) -> io::Result<()> {
         match hex::parse(line.text, next) {
@@ -110,31 +108,26 @@ impl Held {
 /// Each line of the input, and the last row.
 fn take_lines(to: &impl Print, err: &impl Print, input: &[u8]) -> io::Result<()> {
     let mut held = Held {
-        bytes: [0; 65535],
+        bytes: [0; MOST],
         row: None,
     };
-    let mut next = [0; 65535];
-    let mut number = 1u64;
-    let mut rest = input;
-    while let Some(end) = input::lines::find(rest, b'\n') {
+    let mut next = [0; MOST];
+    for (i, text) in input.split(|b| *b == b'\n').enumerate() {
         let line = Line {
-            text: &rest[..end],
-            number,
+            text,
+            number: i as u64 + 1,
         };
         held.take_line(to, err, &mut next, line)?;
-        number = number.wrapping_add(1);
-        rest = &rest[end + 1..];
     }
     held.flush(to)
 }
 
 /// Reads standard input to its end.
 pub fn start(from: &mut impl Read, to: &impl Print, err: &impl Print) -> io::Result<()> {
-    let mut input = [0u8; MOST];
+    let mut input = [0u8; ROOM];
     let n = lines::read_full(from, &mut input)?;
-    if n >= MOST {
-        return println!(err; "the input is longer than 262143 characters");
+    if n > LONGEST {
+        return println!(err; "the input is longer than {LONGEST} characters");
     }
-    input[n] = b'\n';
-    take_lines(to, err, &input[..n + 1])
+    take_lines(to, err, &input[..n])
 }

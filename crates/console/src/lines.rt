@@ -7,12 +7,18 @@ use input::lines::Cursor;
 use std::io;
 use std::io::Read;
 
+/// The characters of the longest line, and of the longest input that is read whole.
+pub const LONGEST: usize = 262143;
+
+/// The bytes of a buffer for them: one more, for the end of the last line.
+pub const ROOM: usize = LONGEST + 1;
+
 /// A line that fills the buffer is said to be too long once; what comes of it further on is dropped.
 pub fn overflow(to: &impl Print, place: Cursor) -> io::Result<Cursor>
     ensures { IfOk result (λ next. (next.at ≡ 0) × (next.line ≡ place.line) × (next.skipping ≡ true)) }
 {
     if !place.skipping {
-        println!(to; "line {}: longer than 262143 characters", place.line)?;
+        println!(to; "line {}: longer than {LONGEST} characters", place.line)?;
     }
     Ok(Cursor {
         at: 0,

@@ -273,7 +273,7 @@ proper_capped service limit r h =
     by_test (leb (length r) limit) (λ e. rw e (record { headed = h; fits = omega (arith, leb-true (length r) limit e) }))
     (λ e. rw e (proper_fail limit service _ refl))
 
-fitting-fits : (space : ℕ) (es : List Entry) → length (bytes_of (take (fitting space es) es)) ≤ space
+pub fitting-fits : (space : ℕ) (es : List Entry) → length (bytes_of (take (fitting space es) es)) ≤ space
 unfolding fitting bytes_of
 fitting-fits space [] = omega arith
 fitting-fits space (e ∷ es) =

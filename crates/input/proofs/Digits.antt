@@ -102,7 +102,7 @@ module _ (c : ℕ) where
         (λ w. from_65 (ltb-false c 65 w))))
 
 -- a value is below 16
-pub digit_small : (c d : ℕ) → Some d ≡ digit_of c → d < 16
+digit_small : (c d : ℕ) → Some d ≡ digit_of c → d < 16
 unfolding digit_of
 digit_small c d e =
     by_test (between 0x30 0x39 c)
@@ -125,7 +125,7 @@ module _ (high low : ℕ) (h : Option ℕ) (first : h ≡ digit_of high) where
       go (Some d) p q = cc q
 
   module _ (d : ℕ) (is : Ok d ≡ ok_or h Digit) where
-    pub found : Some d ≡ digit_of high
+    found : Some d ≡ digit_of high
     found = go h first is
       where
         go : (o : Option ℕ) → o ≡ digit_of high → Ok d ≡ ok_or o Digit → Some d ≡ digit_of high
@@ -151,6 +151,10 @@ module _ (high low d : ℕ) (first : byte_of high low ≡ with_digit (digit_of l
 
   pub whole_byte : (x : ℕ) → Ok x ≡ ok_or l Digit → Ok (16 * d + x) ≡ byte_of high low
   whole_byte x e = rw (← (found low high l second x e)) refl ∙ sym first
+
+module _ (high low : ℕ) (h : Option ℕ) (first : h ≡ digit_of high) (l : Option ℕ) (second : l ≡ digit_of low) where
+  pub small_digits : (d x : ℕ) → Ok d ≡ ok_or h Digit → Ok x ≡ ok_or l Digit → (d < 16) × (x < 16)
+  small_digits d x a b = (digit_small high d (found high low h first d a), digit_small low x (found low high l second x b))
 
 -- ---- decimal digits
 

@@ -10,7 +10,7 @@ use lib.Dec.{eqb}
 use lib.ListN.{length, get_or, take, drop, length-append, length-drop}
 use lib.Seq.{get_or-take, get_or-drop, drop-drop, take-take, take_at, drop_at, take_all}
 use borrow.Author.Tests.{eqb-true, eq-eqb, ne_eqb, le-ltb, not-true, not-false}
-use Rattle.std.specs.Prelude.{is_some}
+use Rattle.std.specs.Bool.{then_some}
 use Rattle.std.specs.Cmp.Lexicographic.{pointwise}
 use Rattle.input.proofs.Words.{same_text}
 use Rattle.laws.specs.Pick.{pick}
@@ -43,14 +43,11 @@ module _ (s : List ℕ) where
     size_is : size ≡ mask_size s
     size_is = let k : mask_start s - 2 ≡ 2 + 2 * get_or s 1 0 = omega arith in q ∙ u ∙ rw (w, k) refl
 
-    pub other_length_lem : (length s ≡ 4 + 2 * words + 2 * size → ⊥) → None ≡ found_masks s
+    pub whole_write : get_or s 0 0 ≡ 0x4E → then_some (eqb (length s) (4 + 2 * words + 2 * size)) (4 + 2 * words) ≡ found_masks s
     unfolding is_masked_write
-    other_length_lem h = rw (ne_eqb (length s) (mask_start s + 2 * mask_size s) (rw (w, size_is) at h), both-none (eqb (get_or s 0 0) 0x4E)) refl
-
-    pub whole_write : get_or s 0 0 ≡ 0x4E → length s ≡ 4 + 2 * words + 2 * size → Some (4 + 2 * words) ≡ found_masks s
-    unfolding is_masked_write
-    whole_write first h =
-        rw (eq-eqb (get_or s 0 0) 0x4E first, eq-eqb (length s) (mask_start s + 2 * mask_size s) (rw (w, size_is) at h)) (ap (λ (k : ℕ). Some (4 + 2 * k)) w)
+    whole_write first =
+        rw (w, size_is, eq-eqb (get_or s 0 0) 0x4E first)
+        (by_test (eqb (length s) (mask_start s + 2 * mask_size s)) (λ t. rw t refl) (λ t. rw t refl))
 
   pub is_none : None ≡ found_masks s → is_masked_write s ≡ false
   is_none e = by_test (is_masked_write s) (λ t. cc (rw t at e)) (λ t. t)

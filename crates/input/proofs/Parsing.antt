@@ -12,11 +12,11 @@ use lib.ListN.{length, get_or, take, drop, set, take-append-drop, length-set, le
 use lib.Seq.{length-take-le, take-suc-set, drop-set-lt, drop-drop}
 use borrow.Author.Tests.{lt-leb, le-leb, ne_eqb, eq-eqb, leb-false, ltb-false}
 use Rattle.std.specs.Prelude.{Result, Ok, Err, None, IfOk, IfSome}
+use Rattle.std.proofs.lemmas.List.{take_rest}
 use Rattle.laws.specs.Put.{put}
 use Rattle.laws.specs.Tests.{stretch}
 use Rattle.laws.proofs.Chain.{by_test, pick_all}
 use Rattle.laws.proofs.Tests.{pick_by}
-use Rattle.laws.proofs.Parts.{to_end}
 use Rattle.laws.proofs.Put.{put-none}
 use Rattle.input.specs.Text.{up_to}
 use Rattle.input.proofs.Text.{take-stretch}
@@ -86,7 +86,7 @@ after-short (c ∷ text) = by_test (is_blank c) (λ t. rw t (omega (arith, after
 
 -- two characters fewer are left
 pub going_less : (rest next : List ℕ) → 2 ≤ length rest → next ≡ after_blanks (take (length rest - 2) (drop 2 rest)) → length next < length rest
-going_less rest next h e = rw (e, to_end rest 2) (omega (arith, after-short (drop 2 rest), length-drop 2 rest))
+going_less rest next h e = rw (e, take_rest rest 2) (omega (arith, after-short (drop 2 rest), length-drop 2 rest))
 
 -- n bytes are read into the request, and the text `rest`, which begins with no blank, goes on with them
 pub record Gathering (limit : ℕ) (text old rest : List ℕ) (n : ℕ) (request : List ℕ) : Type 0 where
@@ -134,7 +134,7 @@ module _ (limit : ℕ) (text old rest : List ℕ) (n : ℕ) (request : List ℕ)
     going_more next f s =
         let room : n < length old = omega (arith, g.long) in
         let after : List ℕ = after_blanks (drop 2 rest) in
-        let there : next ≡ after = s ∙ ap after_blanks (to_end rest 2) in
+        let there : next ≡ after = s ∙ ap after_blanks (take_rest rest 2) in
         let further : bytes_in limit (length old) n rest ≡ behind (b ∷ []) (bytes_in limit (length old) (suc n) after) =
         more room ∙ ap (behind (b ∷ [])) (skip (bytes_in limit (length old) (suc n)) (bytes-over limit (length old) (suc n)) (drop 2 rest)) in
         let stored : take (suc n) (set request n b) ≡ take n request ++ (b ∷ []) = take-suc-set request n b f in
@@ -185,7 +185,7 @@ asked_limited : (most : ℕ) (text : List ℕ) → Begins text → 1 ≤ length 
     → asked_by most text ≡ limited_by most (take (length text - 1) (drop 1 text))
 unfolding asked_by
 asked_limited most [] b h e = absurd (omega arith)
-asked_limited most (c ∷ text) b h e = rw (b, eq-eqb c 0x40 e) (ap (limited_by most) (sym (to_end (c ∷ text) 1)))
+asked_limited most (c ∷ text) b h e = rw (b, eq-eqb c 0x40 e) (ap (limited_by most) (sym (take_rest (c ∷ text) 1)))
 
 asked_plain : (most : ℕ) (text : List ℕ) → Begins text → 1 ≤ length text → (get_or text 0 0 ≡ 0x40 → ⊥) → asked_by most text ≡ bytes_in 500 most 0 text
 unfolding asked_by

@@ -22,11 +22,7 @@ fn masks_at(s: &[u8]) -> Option<usize>
         return None;
     }
     let size = usize::from(cip::u16_at(s, at - 2));
-    if s.len() == at + 2 * size {
-        Some(at)
-    } else {
-        None
-    }
+    (s.len() == at + 2 * size).then_some(at)
 }
 
 /// Whether a request is a masked write with masks of the size that it names, and nothing behind them.

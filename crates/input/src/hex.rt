@@ -33,7 +33,8 @@ impl fmt::Display for Fault {
 
 impl Error for Fault {}
 
-/// A request that a line asks: its limit, and how many bytes it has.
+/// A request that a line asks: its limit, and how many bytes it has. No slice of the buffer stands here: `parsed` says a request as a value of
+/// this type, and a slice's address would be a part of it.
 #[derive(Clone, Copy, Debug, PartialEq, Eq)]
 pub struct Request {
     pub limit: usize,

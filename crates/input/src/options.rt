@@ -60,7 +60,7 @@ fn option_of(text: &[u8]) -> Argument
 }
 
 /// What the words ask for; they are counted from 1.
-#[derive(Clone, Copy, Debug, PartialEq, Eq)]
+#[derive(Clone, Copy, Debug, PartialEq, Eq, Default)]
 pub struct Options {
     pub help: bool,
     pub numbers: bool,
@@ -78,14 +78,7 @@ impl Options {
         ensures { (result.help ≡ false) × (result.numbers ≡ false) × (result.tables ≡ false) × (result.join ≡ false)
             × (result.file ≡ None) × (result.wrong ≡ None) }
     {
-        Options {
-            help: false,
-            numbers: false,
-            tables: false,
-            join: false,
-            file: None,
-            wrong: None,
-        }
+        Options::default()
     }
 
     /// What is asked for with word i too. A second file is not taken, nor is a word that is unknown or too long.

@@ -1,6 +1,6 @@
 -- Parts of a buffer that is written piece by piece, or into which a text is laid.
 -- Assumes nothing.
-use mathlib.Core.Path.{◌≡◌, refl, sym, ap, ◌∙◌}
+use mathlib.Core.Path.{◌≡◌, sym, ap, ◌∙◌}
 use mathlib.Core.List.{List, [], ◌∷◌, ◌++◌}
 use Prim.Native.Nat.{ℕ, zero, suc, ◌+◌, ◌-◌, ◌≤◌, ◌<◌}
 use native.Mathlib.Omega.{arith}
@@ -45,11 +45,3 @@ module _ (m : ℕ) (old r new : List ℕ) (lies : new ≡ laid m old r) where
 pub laid-drop : (m : ℕ) (a b ys : List ℕ) → drop m a ≡ drop m b → laid m a ys ≡ laid m b ys
 unfolding laid
 laid-drop m a b ys e = rw e
-
-pub first_none : (s : List ℕ) → length s ≡ 0 → 0 ≡ get_or s 0 0
-first_none [] e = refl
-first_none (x ∷ s) e = absurd (omega arith)
-
--- a part to the end
-pub to_end : (xs : List ℕ) (a : ℕ) → take (length xs - a) (drop a xs) ≡ drop a xs
-to_end xs a = take_all (length xs - a) (drop a xs) (rw length-drop (omega arith))

@@ -1,12 +1,11 @@
 -- What a lookup found is a row of its table.
 -- Assumes nothing.
-use Rattle.std.proofs.Common.{◌≡◌, ℕ, ◌<◌, Bool, true, eqb, ltb, List, length, sym, refl, ap, ◌∙◌, arith, ltb-true}
+use Rattle.std.proofs.Common.{◌≡◌, ℕ, ◌<◌, Bool, eqb, List, length, sym, refl, ap, ◌∙◌, arith}
 use Rattle.std.specs.Prelude.{Option, None, Some}
 use Rattle.std.specs.Option.{is_some as std_is_some}
-use Rattle.std.proofs.lemmas.List.{take_rest}
 use Rattle.laws.specs.Pick.{is_some}
 use Rattle.laws.proofs.Chain.{clash, pick_all}
-use Rattle.laws.proofs.Tests.{scan-all, both_true}
+use Rattle.laws.proofs.Tests.{scan-all}
 use Rattle.definition.specs.Names.{same_name, is_program_name, after_program}
 use Rattle.definition.specs.Tables.{Tables, Row, template_id, program_name}
 use Rattle.definition.specs.Lookup.{first, template_in, id_in, program_in, program_of}
@@ -40,10 +39,6 @@ program_lem t name =
 pub program_inside : (t : Tables) (name : List ℕ) (i : ℕ) → Some i ≡ program_of t name → i < length t.programs
 program_inside t name i e = inside_by (length t.programs) i (program_of t name) e (program_lem t name)
 
-pub program_long : (name : List ℕ) → true ≡ is_program_name name → 8 < length name
-unfolding is_program_name
-program_long name e = ltb-true 8 (length name) (both_true (ltb 8 (length name)) _ (sym e)).0
-
 -- whether it found one
 some_by : (o : Option ℕ) → std_is_some o ≡ is_some o
 some_by None = refl
@@ -51,5 +46,3 @@ some_by (Some i) = refl
 
 pub found_some : (o p : Option ℕ) (b : Bool) → std_is_some o ≡ b → o ≡ p → b ≡ is_some p
 found_some o p b e q = sym e ∙ some_by o ∙ ap is_some q
-
-pub ruleset named = (program_long, take_rest)

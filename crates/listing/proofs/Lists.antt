@@ -1,10 +1,11 @@
 -- A list's numbers by their pairs of bytes, and what is written of them one by one.
 -- Assumes nothing.
-use Rattle.std.proofs.Common.{◌≡◌, ℕ, zero, suc, ◌+◌, ◌*◌, ◌/◌, ◌<◌, ◌≤◌, ◌≢◌, ltb, Bool, List, [], ◌∷◌, ◌++◌, length, take, drop, get_or, map, sym, refl, ap}
-use Rattle.std.proofs.Common.{◌∙◌, add-one, arith, length-append, lt-ltb, le-ltb, ltb-true, ltb-false, ne_eqb, true, false}
-use Rattle.std.proofs.lemmas.List.{get_or-take, get_or-drop, drop-take, length-map}
+use Rattle.std.proofs.Common.{◌≡◌, ℕ, zero, suc, ◌+◌, ◌*◌, ◌/◌, ◌<◌, ◌≤◌, ltb, Bool, List, [], ◌∷◌, ◌++◌, length, take, drop, get_or, map, sym, refl, ap}
+use Rattle.std.proofs.Common.{◌∙◌, add-one, arith, length-append, lt-ltb, le-ltb, ltb-true, ltb-false, true, false}
+use Rattle.std.proofs.lemmas.List.{get_or-take, drop-take, length-map}
 use Rattle.std.proofs.lemmas.Nat.{mul-le}
-use Rattle.std.specs.Prelude.{None, Some}
+use Rattle.std.specs.Prelude.{None, Some, sum_by}
+use Rattle.std.specs.List.{fold}
 use Rattle.std.specs.Int.{from_le_bytes, w16}
 use Rattle.std.specs.Simd.{first_chunks}
 use lib.ListN.{drop_of_length-le}
@@ -14,7 +15,6 @@ use Rattle.laws.proofs.Chain.{by_test, clash}
 use Rattle.laws.specs.Tests.{every}
 use Rattle.laws.proofs.Put.{put-put, put-none}
 use Rattle.definition.specs.Bytes.{u16_at, numbers, counted}
-use Rattle.definition.specs.Symbols.{is_listed}
 use Rattle.cip.specs.Writes.{Written}
 use Rattle.listing.specs.Numbers.{word}
 
@@ -72,6 +72,16 @@ module _ (f : ℕ → List ℕ) (g : List ℕ → List ℕ) (adds : Adds f g) wh
   pub all_short : (m : ℕ) → ((a : ℕ) → length (f a) ≤ m) → (l : List ℕ) → length (g l) ≤ length l * m
   all_short m short [] = rw adds.none (omega arith)
   all_short m short (a ∷ l) = rw (adds.one a l, length-append) (omega (arith, short a, all_short m short l))
+
+  -- what all of them add
+  sum_from : (n : ℕ) (pairs : List (List ℕ)) → fold (λ s p. s + length (f (from_le_bytes w16 p))) n pairs ≡ n + length (g (map word pairs))
+  sum_from n [] = rw adds.none (omega arith)
+  sum_from n (p ∷ pairs) =
+      rw (adds.one (word p) (map word pairs), length-append, ← (as_word p))
+      (sum_from (n + length (f (from_le_bytes w16 p))) pairs ∙ omega arith)
+
+  pub sum_all : (pairs : List (List ℕ)) → sum_by (λ p. length (f (from_le_bytes w16 p))) pairs ≡ length (g (map word pairs))
+  sum_all pairs = sum_from 0 pairs ∙ omega arith
 
   module _ (pairs : List (List ℕ)) where
     -- of the numbers from the i-th on
@@ -131,34 +141,3 @@ pub every_map : {A B : Type 0} (p : B → Bool) (f : A → B) (xs : List A) → 
 unfolding every
 every_map p f [] = refl
 every_map p f (x ∷ xs) = rw (every_map p f xs)
-
--- ---- the attributes that a page knows
-
-pub listed_yes : (a : ℕ) → 1 ≤ a → a ≤ 10 → a ≢ 4 → a ≢ 9 → true ≡ is_listed a
-unfolding is_listed
-listed_yes zero l h n m = absurd (omega arith)
-listed_yes (suc zero) l h n m = refl
-listed_yes (suc (suc zero)) l h n m = refl
-listed_yes (suc (suc (suc zero))) l h n m = refl
-listed_yes (suc (suc (suc (suc zero)))) l h n m = absurd (omega arith)
-listed_yes (suc (suc (suc (suc (suc zero))))) l h n m = refl
-listed_yes (suc (suc (suc (suc (suc (suc zero)))))) l h n m = refl
-listed_yes (suc (suc (suc (suc (suc (suc (suc zero))))))) l h n m = refl
-listed_yes (suc (suc (suc (suc (suc (suc (suc (suc zero)))))))) l h n m = refl
-listed_yes (suc (suc (suc (suc (suc (suc (suc (suc (suc zero))))))))) l h n m = absurd (omega arith)
-listed_yes (suc (suc (suc (suc (suc (suc (suc (suc (suc (suc zero)))))))))) l h n m = refl
-listed_yes (suc (suc (suc (suc (suc (suc (suc (suc (suc (suc (suc a))))))))))) l h n m = absurd (omega arith)
-
-pub listed_no : (a : ℕ) → (1 ≤ a → 3 < a) → (5 ≤ a → 8 < a) → a ≢ 10 → false ≡ is_listed a
-unfolding is_listed
-listed_no a l h n =
-    rw (
-      ne_eqb a 1 (λ e. omega (arith, e, l (omega (arith, e)))),
-      ne_eqb a 2 (λ e. omega (arith, e, l (omega (arith, e)))),
-      ne_eqb a 3 (λ e. omega (arith, e, l (omega (arith, e)))),
-      ne_eqb a 5 (λ e. omega (arith, e, h (omega (arith, e)))),
-      ne_eqb a 6 (λ e. omega (arith, e, h (omega (arith, e)))),
-      ne_eqb a 7 (λ e. omega (arith, e, h (omega (arith, e)))),
-      ne_eqb a 8 (λ e. omega (arith, e, h (omega (arith, e)))),
-      ne_eqb a 10 n,
-    )

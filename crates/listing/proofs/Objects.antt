@@ -7,7 +7,7 @@ use Rattle.laws.specs.Pick.{pick, is_some}
 use Rattle.laws.proofs.Chain.{chain}
 use Rattle.laws.proofs.Put.{put_then}
 use Rattle.definition.specs.Bytes.{le16, le32, counted}
-use Rattle.definition.specs.Reply.{reply, room, success, fail, too_large, too_short, path_unknown}
+use Rattle.definition.specs.Reply.{reply, room, success, fail, too_large, path_unknown}
 use Rattle.definition.specs.Tables.{Tables, Row, other_name}
 use Rattle.definition.specs.Lookup.{program_of, template_in, id_in}
 use Rattle.definition.specs.Attributes.{attribute_entry, attribute_entries, list_reply, structure_attribute, structure_attributes, program_reference}
@@ -16,8 +16,9 @@ use Rattle.definition.specs.Answer.{capped}
 use Rattle.cip.specs.Writes.{Written, Laid}
 use Rattle.cip.proofs.Laws.{finished}
 use Rattle.cip.proofs.Capped.{header_then, capped_fits, capped-large}
+use Rattle.model.specs.Tables.{Whatever}
 use Rattle.model.proofs.Laws.{le16_low}
-use Rattle.listing.specs.Objects.{object_value}
+use Rattle.listing.specs.Objects.{attributes_lent, object_value}
 use Rattle.listing.proofs.Lists.{Adds}
 use Rattle.listing.specs.declared.attributes.Object.{Object}
 use Rattle.listing.specs.declared.attributes.Object.TheVariants.{Structure, Symbol}
@@ -97,9 +98,6 @@ module _ (limit service : ℕ) (o : Object) (body old : List ℕ) where
   abbrev ListLaid : List ℕ → (r : ℕ) → Type 0
   ListLaid new r = Laid limit (capped service limit (list_reply service (object_value o) (counted body))) old r new
 
-  pub list-missing : {r : ℕ} {new : List ℕ} → None ≡ counted body → Laid limit (capped service limit (fail service too_short)) old r new → ListLaid new r
-  list-missing e l = rw (← e) l
-
   module _ (list : List ℕ) (is : Some list ≡ counted body) where
     abbrev whole : List ℕ
     whole = reply service success (le16 (length list) ++ all o list)
@@ -144,17 +142,20 @@ module _ (limit service : ℕ) (body old new : List ℕ) (r : ℕ) where
     structure-unknown e l = rw (← e) l
 
   module _ (t : Tables) (id : ℕ) where
+    -- in every table set with the tables that it is found in
+    abbrev Listed : Type 0
+    Listed = Whatever (attributes_lent t) (λ t. Answered (symbol_attributes t service id body))
+
     pub other_listed : (i : ℕ) (program : Option ℕ) → Some i ≡ id_in t.others 0 id → program ≡ program_of t (other_name t.names (get_or t.others i []))
-        → Answered (list_reply service (program_reference program) (counted body)) → Answered (symbol_attributes t service id body)
-    unfolding symbol_attributes
-    other_listed i program e p l = rw (← e, ← p) l
+        → Answered (list_reply service (program_reference program) (counted body)) → Listed
+    unfolding symbol_attributes program_of
+    other_listed i program e p l = λ o. rw (← e, ← p) l
 
     module _ (other : None ≡ id_in t.others 0 id) where
-      pub symbol-unknown : false ≡ is_some (id_in t.tags 0 id) → Answered (fail service path_unknown) → Answered (symbol_attributes t service id body)
+      pub symbol-unknown : false ≡ is_some (id_in t.tags 0 id) → Answered (fail service path_unknown) → Listed
       unfolding symbol_attributes
-      symbol-unknown e l = rw (← other, ← e) l
+      symbol-unknown e l = λ o. rw (← other, ← e) l
 
-      pub tag_listed : true ≡ is_some (id_in t.tags 0 id) → Answered (list_reply service (program_reference None) (counted body))
-          → Answered (symbol_attributes t service id body)
+      pub tag_listed : true ≡ is_some (id_in t.tags 0 id) → Answered (list_reply service (program_reference None) (counted body)) → Listed
       unfolding symbol_attributes
-      tag_listed e l = rw (← other, ← e) l
+      tag_listed e l = λ o. rw (← other, ← e) l

@@ -10,13 +10,13 @@ use Rattle.definition.specs.Page.{Entry, id_of}
 use Rattle.definition.specs.Symbols.{Symbol as Defined, tag_symbol, other_symbol, entry_of, due}
 use Rattle.definition.proofs.Facts.{tag-elements}
 use Rattle.model.specs.Least.{next_in}
-use Rattle.model.specs.Tables.{tables_of, SomeValid}
+use Rattle.model.specs.Tables.{tables_of, SomeValid, Whatever}
 use Rattle.model.specs.declared.tables.Tables.{Tables as Lent}
 use Rattle.model.specs.declared.least.Listed.{Listed}
 use Rattle.model.specs.declared.least.Next.{Next}
 use Rattle.model.specs.declared.least.Next.TheVariants.{Tag, Other}
 use Rattle.model.proofs.Due.{NextDue, none_due, tag_due, other_due, next_due}
-use Rattle.listing.specs.Entries.{page_lent, ListableRow, EntryStep, put_in, left_out, Stepped, more, full, done}
+use Rattle.listing.specs.Entries.{page_lent, tag_lent, other_lent, ListableRow, EntryStep, put_in, left_out, Stepped, more, full, done}
 use Rattle.listing.specs.declared.pages.Step.{Step}
 use Rattle.listing.specs.declared.pages.Step.TheVariants.{Done}
 
@@ -66,18 +66,16 @@ module _ (t : Tables) (scope bound : ℕ) where
 
     module _ (attributes : List ℕ) (limit used : ℕ) (old : List ℕ) where
       pub tag_step : (f : Next) (r : Listed) (d : Defined) (s : Step) (new : List ℕ) → Found (Some f) → f ≡ Tag r
-          → d ≡ tag_symbol t (get_or t.tags r.place []) → EntryStep (entry_of attributes d) limit used old s new
+          → Whatever (tag_lent t) (λ o. d ≡ tag_symbol o (get_or t.tags r.place [])) → EntryStep (entry_of attributes d) limit used old s new
           → Stepped set scope attributes limit used bound old s new
-      unfolding tag_symbol
       tag_step f r d s new q e m x =
-          tag_stepped set scope bound attributes limit used old r d s new (due_of attributes (Some (Tag r)) (ap Some (sym e) ∙ q)) m x
+          tag_stepped set scope bound attributes limit used old r d s new (due_of attributes (Some (Tag r)) (ap Some (sym e) ∙ q)) (m set) x
 
       pub other_step : (f : Next) (r : Listed) (d : Defined) (s : Step) (new : List ℕ) → Found (Some f) → f ≡ Other r
-          → d ≡ other_symbol t (get_or t.others r.place []) → EntryStep (entry_of attributes d) limit used old s new
+          → Whatever (other_lent t) (λ o. d ≡ other_symbol o (get_or t.others r.place [])) → EntryStep (entry_of attributes d) limit used old s new
           → Stepped set scope attributes limit used bound old s new
-      unfolding other_symbol
       other_step f r d s new q e m x =
-          other_stepped set scope bound attributes limit used old r d s new (due_of attributes (Some (Other r)) (ap Some (sym e) ∙ q)) m x
+          other_stepped set scope bound attributes limit used old r d s new (due_of attributes (Some (Other r)) (ap Some (sym e) ∙ q)) (m set) x
 
       pub none_step : Found None → Stepped set scope attributes limit used bound old Done old
       none_step q = none_stepped set scope bound attributes limit used old old (due_of attributes None q) refl

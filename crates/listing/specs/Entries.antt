@@ -19,6 +19,13 @@ use Rattle.listing.specs.declared.symbols.Symbol.{Symbol}
 abbrev pub page_lent : Tables → Tables → Tables
 page_lent t = for_page t.structures t.tags t.others t.names t.tag_names
 
+-- those that a tag's symbol is made of, and those that another symbol is made of
+abbrev pub tag_lent : Tables → Tables → Tables
+tag_lent t o = for_page t.structures o.tags o.others o.names t.tag_names o
+
+abbrev pub other_lent : Tables → Tables → Tables
+other_lent t o = for_page o.structures o.tags o.others t.names o.tag_names o
+
 abbrev pub made : Symbol → Defined
 made s = record {
   id = s.id;

@@ -2,7 +2,12 @@
 use Rattle.std.specs.Prelude.{ℕ, ◌+◌, ◌-◌, ◌<◌, ◌≤◌, List, [], length, take, leb, eqb, get_or}
 use Rattle.laws.specs.Pick.{pick}
 use Rattle.definition.specs.Reply.{reply, fail, success, partial, too_large}
-use Rattle.definition.specs.Tables.{Row, template_start, template_length}
+use Rattle.definition.specs.Tables.{Tables, Row, template_start, template_length}
+use Rattle.model.specs.Tables.{for_template}
+
+-- the tables that a template is read from, in another table set
+abbrev pub template_lent : Tables → Tables → Tables
+template_lent t = for_template t.structures t.templates
 
 -- `send_template`, of the bytes that are due
 unfoldable pub cut_to_limit : (service : ℕ) (due : List ℕ) (limit : ℕ) → List ℕ

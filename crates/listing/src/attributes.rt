@@ -1,21 +1,23 @@
 // Attribute lists of a structure (class 0x6C) and of a symbol (class 0x6B).
-ghost use Rattle.std.specs.Prelude.{◌≡◌, ◌+◌, ◌/◌, ◌≤◌, ◌++◌, length, Some};
+ghost use Rattle.std.specs.Prelude.{◌≡◌, ◌+◌, ◌/◌, ◌≤◌, length};
 ghost use Rattle.laws.specs.Put.{put};
-ghost use Rattle.definition.specs.Bytes.{le16, counted};
-ghost use Rattle.definition.specs.Reply.{reply, room, success};
+ghost use Rattle.definition.specs.Bytes.{counted};
+ghost use Rattle.definition.specs.Reply.{room};
 ghost use Rattle.definition.specs.Lookup.{program_of};
 ghost use Rattle.definition.specs.Attributes.{attribute_entry, attribute_entries, list_reply, structure_attribute, structure_attributes, symbol_attributes};
 ghost use Rattle.definition.specs.Answer.{capped};
 ghost use Rattle.cip.specs.Writes.{Written, Laid};
-ghost use Rattle.model.specs.Tables.{tables_of};
+ghost use Rattle.model.specs.Tables.{tables_of, Whatever};
 ghost use Rattle.listing.specs.Numbers.{numbers_in};
-ghost use Rattle.listing.specs.Objects.{bytes_of, object_value};
+ghost use Rattle.listing.specs.Objects.{attributes_lent, bytes_of, object_value};
 
 use crate::numbers::Numbers;
 use crate::symbols;
 use crate::values::Value;
 use cip::{Status, replies};
-use model::columns::{STRUCTURE_HANDLE, STRUCTURE_MEMBERS, STRUCTURE_SIZE, TEMPLATE_LENGTH};
+use model::columns::{
+    CONTROLLER_SCOPE, STRUCTURE_HANDLE, STRUCTURE_MEMBERS, STRUCTURE_SIZE, TEMPLATE_LENGTH,
+};
 use model::{Tables, lookup};
 
 /// The status word of a known attribute.
@@ -26,6 +28,18 @@ const UNKNOWN: u16 = 0x0014;
 
 /// Where a reply's entries start: behind its header and their count.
 const ENTRIES: usize = replies::HEADER + 2;
+
+// A structure's attributes, as numbers for the reason that `numbers` gives.
+const HANDLE: u16 = 1;
+
+const MEMBERS: u16 = 2;
+
+const WORDS: u16 = 4;
+
+const SIZE: u16 = 5;
+
+/// The attribute of a symbol that is named as a program.
+const PROGRAM: u16 = 0x0D;
 
 /// A program's instance is this plus its position.
 const FIRST_PROGRAM: u16 = 0x5AD0;
@@ -46,7 +60,7 @@ impl<'a> Object<'a> {
     {
         match *self {
             Object::Structure(row) => structure_value(row, number),
-            Object::Symbol(Some(program)) if number == 0x0D => {
+            Object::Symbol(Some(program)) if number == PROGRAM => {
                 let instance = FIRST_PROGRAM.wrapping_add(cip::low16(program));
                 Some(Value::Reference(instance))
             }
@@ -85,12 +99,11 @@ impl<'a> Object<'a> {
         ensures size { result ≡ length (attribute_entries (object_value self.now) (numbers_in numbers.now)) }
         ensures small { result ≤ 1048560 }
     {
-        // A symbol's `entry_size` and `put_attributes` have loops of this shape: a trait for both would be longer than the loops.
-        let mut used = 0;
-        for pair in numbers.pairs {
-            used += self.entry_size(u16::from_le_bytes(*pair));
-        }
-        used
+        numbers
+            .pairs
+            .iter()
+            .map(|pair| self.entry_size(u16::from_le_bytes(*pair)))
+            .sum()
     }
 
     /// All entries, which fit; returns where they end.
@@ -99,6 +112,7 @@ impl<'a> Object<'a> {
         ensures end { result ≡ at + length (attribute_entries (object_value self.now) (numbers_in numbers.now)) }
         ensures bytes { buf.new ≡ put buf.old at (attribute_entries (object_value self.now) (numbers_in numbers.now)) }
     {
+        // A symbol's `put_attributes` has a loop of this shape: a trait for both would be longer than the loops.
         let mut used = at;
         for pair in numbers.pairs {
             used += self.put_entry(u16::from_le_bytes(*pair), buf, used);
@@ -129,10 +143,10 @@ fn structure_value<'a>(row: &'a [u32; 10], number: u16) -> Option<Value<'a>>
     ensures { bytes_of result ≡ structure_attribute row.now number }
 {
     match number {
-        1 => Some(Value::Short(cip::low16(row[STRUCTURE_HANDLE] as usize))),
-        2 => Some(Value::Short(cip::low16(row[STRUCTURE_MEMBERS] as usize))),
-        4 => Some(Value::Long(words_of(row[TEMPLATE_LENGTH]))),
-        5 => Some(Value::Long(row[STRUCTURE_SIZE])),
+        HANDLE => Some(Value::Short(cip::low16(row[STRUCTURE_HANDLE] as usize))),
+        MEMBERS => Some(Value::Short(cip::low16(row[STRUCTURE_MEMBERS] as usize))),
+        WORDS => Some(Value::Long(words_of(row[TEMPLATE_LENGTH]))),
+        SIZE => Some(Value::Long(row[STRUCTURE_SIZE])),
         _ => None,
     }
 }
@@ -141,7 +155,7 @@ fn structure_value<'a>(row: &'a [u32; 10], number: u16) -> Option<Value<'a>>
 fn words_of(size: u32) -> u32
     ensures { result ≡ (size + 23 + 3) / 4 }
 {
-    ((u64::from(size) + 23).div_ceil(4)) as u32
+    (u64::from(size) + 23).div_ceil(4) as u32
 }
 
 /// The attributes of the structure that a template ID means; 0x05 for an unknown one.
@@ -164,14 +178,11 @@ pub fn structure_attributes(
 }
 
 /// The program that a name with the prefix means.
-#[tactic(auto, using(crate::proofs::Found::named), unfolding(definition::specs::Lookup::program_of))]
+#[tactic(auto, unfolding(definition::specs::Lookup::program_of))]
 pub fn program_of(t: &Tables, name: &[u8]) -> Option<usize>
     ensures { result ≡ program_of (tables_of t.now) name.now }
 {
-    if !path::is_program_name(name) {
-        return None;
-    }
-    t.find_program(&name[8..])
+    t.find_program(path::after_program(name)?)
 }
 
 /// The attributes of a symbol of the controller scope; 0x05 for an unknown one. Only a symbol that is no tag may be named as a program.
@@ -185,13 +196,14 @@ pub fn symbol_attributes(
     buf: &mut [u8],
 ) -> usize
     requires { room limit ≤ length buf.old }
-    ensures { Laid limit (capped service limit (symbol_attributes (tables_of t.now) service id body.now)) buf.old result buf.new }
+    ensures { Whatever (attributes_lent (tables_of t.now))
+        (λ t. Laid limit (capped service limit (symbol_attributes t service id body.now)) buf.old result buf.new) }
 {
-    if let Some(i) = lookup::find_id(t.others, 0, id) {
+    if let Some(i) = lookup::find_id(t.others, CONTROLLER_SCOPE, id) {
         let name = symbols::other_name(t, &t.others[i]);
         return Object::Symbol(program_of(t, name)).answer(service, body, limit, buf);
     }
-    if lookup::find_id(t.tags, 0, id).is_none() {
+    if lookup::find_id(t.tags, CONTROLLER_SCOPE, id).is_none() {
         return replies::refuse(service, Status::PathUnknown, limit, buf);
     }
     Object::Symbol(None).answer(service, body, limit, buf)

@@ -4,6 +4,24 @@ ghost use Rattle.laws.specs.Tests.{every};
 ghost use Rattle.definition.specs.Bytes.{counted};
 ghost use Rattle.definition.specs.Symbols.{is_listed};
 
+// The attributes that a page knows. They are numbers and no enum: a list may name any number, and the reply to an attribute list gives each
+// back, known or not.
+pub const NAME: u16 = 1;
+
+pub const TYPE: u16 = 2;
+
+pub const ADDRESS: u16 = 3;
+
+pub const OBJECT_ADDRESS: u16 = 5;
+
+pub const CONTROL: u16 = 6;
+
+pub const SIZE: u16 = 7;
+
+pub const LENGTHS: u16 = 8;
+
+pub const ACCESS: u16 = 10;
+
 /// The numbers of a list, two bytes each.
 #[derive(Clone, Copy)]
 pub struct Numbers<'a> {
@@ -34,8 +52,12 @@ impl<'a> Numbers<'a> {
 }
 
 /// Whether an attribute is one that a page knows.
+#[tactic(auto, using(laws::proofs::Chain::tests), unfolding(definition::specs::Symbols::is_listed))]
 fn is_listed(number: u16) -> bool
     ensures { result ≡ is_listed number }
 {
-    matches!(number, 1..=3 | 5..=8 | 10)
+    matches!(
+        number,
+        NAME | TYPE | ADDRESS | OBJECT_ADDRESS | CONTROL | SIZE | LENGTHS | ACCESS
+    )
 }

@@ -1,5 +1,5 @@
 // Symbol pages: one entry after another by ascending ID, as far as they fit.
-ghost use Rattle.std.specs.Prelude.{◌≡◌, ◌+◌, ◌-◌, ◌≤◌, max, false, length, eqb};
+ghost use Rattle.std.specs.Prelude.{◌≡◌, ◌+◌, ◌-◌, ◌≤◌, false, length, eqb};
 ghost use Rattle.laws.specs.Pick.{both};
 ghost use Rattle.definition.specs.Bytes.{part};
 ghost use Rattle.definition.specs.Reply.{reply, room};
@@ -18,7 +18,7 @@ use crate::symbols::Symbol;
 use cip::{Status, replies};
 use model::Tables;
 use model::columns::{SYMBOL_ID, SYMBOL_SCOPE};
-use model::least::{Listed, Next};
+use model::least::{Bound, Listed, Next};
 
 /// Where a page starts: in a scope, at an ID.
 #[derive(Clone, Copy)]
@@ -74,7 +74,11 @@ impl<'a> Page<'a> {
             (λ t. Stepped t self.now.start.scope (numbers_in self.now.numbers) limit walk.used walk.bound buf.old result buf.new) }
         ensures further { Further walk.used limit result }
     {
-        match next_near(t, self.start.scope, walk.bound, walk.hint) {
+        let from = Bound {
+            scope: self.start.scope,
+            id: walk.bound,
+        };
+        match next_near(t, from, walk.hint) {
             Some(Next::Tag(tag)) => {
                 let symbol = Symbol::of_tag(t, &t.tags[tag.place]);
                 let hint = tag.place + 1;
@@ -125,25 +129,25 @@ impl<'a> Page<'a> {
 }
 
 /// Whether a tag's scope and ID are those looked for.
-fn is_at(row: &[u32; 12], scope: u32, bound: u64) -> bool
-    ensures { result ≡ both (eqb (tag_scope row.now) scope) (eqb (tag_id row.now) bound) }
+fn is_at(row: &[u32; 12], from: Bound) -> bool
+    ensures { result ≡ both (eqb (tag_scope row.now) from.scope) (eqb (tag_id row.now) from.id) }
 {
-    row[SYMBOL_SCOPE] == scope && u64::from(row[SYMBOL_ID]) == bound
+    row[SYMBOL_SCOPE] == from.scope && u64::from(row[SYMBOL_ID]) == from.id
 }
 
 /// The symbol of the least ID not below a bound. The tag at the hint is it if its ID is the bound itself: none due can be less,
 /// and no other symbol of the scope has that ID. Else it is searched for.
 #[tactic(auto, using(crate::proofs::Hinted::hint_next))]
-fn next_near(t: &Tables, scope: u32, bound: u64, hint: usize) -> Option<Next>
+fn next_near(t: &Tables, from: Bound, hint: usize) -> Option<Next>
     requires { IdsApart t.now.tags.now t.now.others.now }
-    ensures { result ≡ next_in t.now.tags.now t.now.others.now scope bound }
+    ensures { result ≡ next_in t.now.tags.now t.now.others.now from.scope from.id }
 {
     match t.tags.get(hint) {
-        Some(row) if is_at(row, scope, bound) => Some(Next::Tag(Listed {
+        Some(row) if is_at(row, from) => Some(Next::Tag(Listed {
             place: hint,
             id: row[SYMBOL_ID],
         })),
-        _ => t.next_symbol(scope, bound),
+        _ => t.next_symbol(from),
     }
 }
 

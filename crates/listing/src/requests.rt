@@ -2,7 +2,7 @@
 ghost use Rattle.std.specs.Prelude.{◌≡◌, ◌≤◌, true, length};
 ghost use Rattle.laws.specs.Pick.{is_some};
 ghost use Rattle.definition.specs.Reply.{room};
-ghost use Rattle.definition.specs.Segment.{segments, segments_from};
+ghost use Rattle.definition.specs.Segment.{segments_from};
 ghost use Rattle.model.specs.Tables.{tables_of, SomeValid};
 ghost use Rattle.listing.specs.Pages.{list_lent, BeginsAt, PageBegins, Lists};
 
@@ -11,7 +11,8 @@ use crate::numbers::Numbers;
 use crate::pages::{Page, Start};
 use cip::Status;
 use cip::codes::SYMBOL_CLASS;
-use model::Tables;
+use model::columns::CONTROLLER_SCOPE;
+use model::{Tables, lookup};
 use path::{Request, Segment};
 
 /// The start in a scope: class 0x6B and the start ID, and nothing more.
@@ -30,26 +31,25 @@ fn start_in(path: &[u8], at: usize, scope: u32) -> Option<Start>
     })
 }
 
-/// The start of the page that a path asks for: in the scope of a known program, if its name comes first. A program's scope is its
-/// position plus one; 0 is the controller's.
-pub fn page_start(t: &Tables, path: &[u8]) -> Option<Start>
-    requires { (is_some (segments path.now) ≡ true) × (length t.now.programs.now ≤ 65535) }
-    ensures { PageBegins (tables_of t.now) path.now result }
+/// The start of the page that a path asks for: in the scope of a known program, if its name comes first, else in the controller's.
+pub fn page_start(t: &Tables, q: &Request) -> Option<Start>
+    requires { length t.now.programs.now ≤ 65535 }
+    ensures { PageBegins (tables_of t.now) q.now.path.now result }
 {
-    let first = path::segment_at(path, 0)?;
+    let first = path::segment_at(q.path, 0)?;
     let Segment::Symbol(name) = first.segment else {
-        return start_in(path, 0, 0);
+        return start_in(q.path, 0, CONTROLLER_SCOPE);
     };
     let program = attributes::program_of(t, name)?;
-    start_in(path, first.next, program as u32 + 1)
+    start_in(q.path, first.next, lookup::program_scope(program))
 }
 
 /// Item 13: a page of the symbols of a scope (0x55).
-pub fn list_symbols(t: &Tables, q: Request, limit: usize, buf: &mut [u8]) -> usize
+pub fn list_symbols(t: &Tables, q: &Request, limit: usize, buf: &mut [u8]) -> usize
     requires { SomeValid (list_lent (tables_of t.now)) × (room limit ≤ length buf.old) }
-    ensures { Lists (tables_of t.now) q.entry limit buf.old result buf.new }
+    ensures { Lists (tables_of t.now) q.now limit buf.old result buf.new }
 {
-    let Some(start) = page_start(t, q.path) else {
+    let Some(start) = page_start(t, q) else {
         return cip::fail(buf, limit, q.service, Status::PathUnknown);
     };
     let Some(numbers) = Numbers::read(q.body) else {

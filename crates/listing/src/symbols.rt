@@ -1,20 +1,19 @@
 // The symbols that a page lists: table rows made symbols, and a symbol's entry, its ID and then the listed attributes.
-ghost use Rattle.std.specs.Prelude.{◌≡◌, ◌+◌, ◌*◌, ◌%◌, ◌≤◌, [], ◌∷◌, length, get_or};
+ghost use Rattle.std.specs.Prelude.{◌≡◌, ◌+◌, ◌*◌, ◌%◌, ◌≤◌, length};
 ghost use Rattle.laws.specs.Pick.{pick};
 ghost use Rattle.laws.specs.Put.{put};
-ghost use Rattle.definition.specs.Tables.{nonzero, other_name};
+ghost use Rattle.definition.specs.Tables.{other_name};
 ghost use Rattle.definition.specs.Lookup.{marked};
 ghost use Rattle.definition.specs.Symbols.{symbol_attribute, attributes_of, base_tag, tag_symbol, other_symbol};
-ghost use Rattle.cip.specs.Writes.{Written};
-ghost use Rattle.model.specs.Tables.{tables_of};
+ghost use Rattle.model.specs.Tables.{tables_of, Whatever};
 ghost use Rattle.listing.specs.Numbers.{numbers_in};
 ghost use Rattle.listing.specs.Values.{value_bytes};
 
-use crate::numbers::Numbers;
+use crate::numbers::{ADDRESS, CONTROL, LENGTHS, NAME, Numbers, OBJECT_ADDRESS, SIZE, TYPE};
 use crate::values::Value;
 use model::columns::{
     OTHER_ID, OTHER_NAME_LENGTH, OTHER_NAME_START, OTHER_TYPE, TAG_ACCESS, TAG_ALIAS, TAG_ID,
-    TAG_LENGTH_1, TAG_LENGTH_2, TAG_LENGTH_3, TAG_NAME_LENGTH, TAG_NAME_START, TAG_TYPE,
+    TAG_NAME_LENGTH, TAG_NAME_START, TAG_TYPE,
 };
 use model::{Tables, lookup, shapes, types};
 
@@ -33,19 +32,19 @@ pub struct Symbol<'a> {
 }
 
 impl<'a> Symbol<'a> {
-    ghost use Rattle.listing.specs.Entries.{made, ListableRow};
+    ghost use Rattle.listing.specs.Entries.{tag_lent, other_lent, made, ListableRow};
 
     /// A tag, whose access is at most 3 and which has elements, as where the tables are valid.
     pub fn of_tag(t: &Tables<'a>, row: &[u32; 12]) -> Symbol<'a>
         requires { ListableRow row.now }
-        ensures { made result ≡ tag_symbol (tables_of t.now) row.now }
+        ensures { Whatever (tag_lent (tables_of t.now)) (λ o. made result ≡ tag_symbol o row.now) }
     {
-        let own = [row[TAG_LENGTH_1], row[TAG_LENGTH_2], row[TAG_LENGTH_3]];
+        let dims = shapes::count_lengths(shapes::lengths_of(row));
         let [listed, _] = shapes::shapes(row);
         Symbol {
             id: row[TAG_ID],
             name: lookup::part_of(t.tag_names, row[TAG_NAME_START], row[TAG_NAME_LENGTH]),
-            kind: types::symbol_type(t.structures, row[TAG_TYPE], count_lengths(own)),
+            kind: types::symbol_type(t.structures, row[TAG_TYPE], dims as u32),
             control: control_of(row[TAG_ALIAS]),
             size: t.element_size(row[TAG_TYPE]),
             lengths: listed,
@@ -55,7 +54,7 @@ impl<'a> Symbol<'a> {
 
     #[tactic(auto, unfolding(definition::specs::Symbols::other_symbol))]
     pub fn of_other(t: &Tables<'a>, row: &[u32; 5]) -> Symbol<'a>
-        ensures { made result ≡ other_symbol (tables_of t.now) row.now }
+        ensures { Whatever (other_lent (tables_of t.now)) (λ o. made result ≡ other_symbol o row.now) }
     {
         Symbol {
             id: row[OTHER_ID],
@@ -74,26 +73,35 @@ impl<'a> Symbol<'a> {
         ensures { value_bytes result ≡ symbol_attribute (made self.now) number }
     {
         match number {
-            1 => Value::Name(self.name),
-            2 => Value::Short(cip::low16(self.kind as usize)),
-            3 => Value::Long(address_of(self.id, 0x100, 0x100000)),
-            5 => Value::Long(address_of(self.id, 0x40, 0x2000)),
-            6 => Value::Long(self.control),
-            7 => Value::Short(cip::low16(self.size as usize)),
-            8 => Value::Lengths(self.lengths),
+            NAME => Value::Name(self.name),
+            TYPE => Value::Short(cip::low16(self.kind as usize)),
+            ADDRESS => Value::Long(address_of(self.id, 0x100, 0x100000)),
+            OBJECT_ADDRESS => Value::Long(address_of(self.id, 0x40, 0x2000)),
+            CONTROL => Value::Long(self.control),
+            SIZE => Value::Short(cip::low16(self.size as usize)),
+            LENGTHS => Value::Lengths(self.lengths),
+            // `ACCESS`, since a page knows no other
             _ => Value::Byte(self.access),
         }
+    }
+
+    /// The bytes of an attribute's value.
+    #[tactic(auto, using(crate::proofs::Made::attribute_short))]
+    fn attribute_size(&self, number: u16) -> usize
+        ensures { result ≡ length (symbol_attribute (made self.now) number) }
+    {
+        self.value(number).size()
     }
 
     /// The bytes of the entry: its ID has four.
     pub fn entry_size(&self, numbers: &Numbers) -> usize
         ensures { result ≡ 4 + length (attributes_of (made self.now) (numbers_in numbers.now)) }
     {
-        let mut used = 4;
-        for pair in numbers.pairs {
-            used += self.value(u16::from_le_bytes(*pair)).size();
-        }
-        used
+        let sizes = numbers
+            .pairs
+            .iter()
+            .map(|pair| self.attribute_size(u16::from_le_bytes(*pair)));
+        4 + sizes.sum::<usize>()
     }
 
     /// Writes the entry's attributes, which fit; returns where they end.
@@ -119,19 +127,6 @@ fn address_of(id: u32, factor: u32, offset: u32) -> u32
 
 /// Attribute 6 of a tag that is no alias.
 const BASE_TAG: u32 = 0x4000000;
-
-/// Nonzero lengths stand first.
-fn count_lengths(lengths: [u32; 3]) -> u32
-    ensures count { result ≡ length (nonzero lengths) }
-    ensures three { result ≤ 3 }
-{
-    match lengths {
-        [0, _, _] => 0,
-        [_, 0, _] => 1,
-        [_, _, 0] => 2,
-        _ => 3,
-    }
-}
 
 fn control_of(alias: u32) -> u32
     ensures { result ≡ pick (marked alias) 0 base_tag }

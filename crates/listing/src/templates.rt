@@ -1,13 +1,13 @@
 // A template read: bytes of the template store from an offset on, cut to the limit.
-ghost use Rattle.std.specs.Prelude.{◌≡◌, ◌+◌, ◌≤◌, length};
+ghost use Rattle.std.specs.Prelude.{◌+◌, ◌≤◌, length};
 ghost use Rattle.definition.specs.Reply.{room};
 ghost use Rattle.definition.specs.Tables.{template_start, template_length};
 ghost use Rattle.definition.specs.Lookup.{structure_with_template};
 ghost use Rattle.definition.specs.Template.{template_reply};
 ghost use Rattle.definition.specs.Answer.{read_template};
 ghost use Rattle.cip.specs.Writes.{Laid};
-ghost use Rattle.model.specs.Tables.{tables_of};
-ghost use Rattle.listing.specs.Templates.{cut_to_limit, InStore};
+ghost use Rattle.model.specs.Tables.{tables_of, Whatever};
+ghost use Rattle.listing.specs.Templates.{template_lent, cut_to_limit, InStore};
 
 use cip::{Status, replies};
 use model::Tables;
@@ -69,8 +69,8 @@ pub fn read_template(
     buf: &mut [u8],
 ) -> usize
     requires { let t = tables_of t.now in InStore (length t.templates) t.structures × (room limit ≤ length buf.old) }
-    ensures { let t = tables_of t.now in
-        Laid limit (read_template t service (structure_with_template t id) body.now limit) buf.old result buf.new }
+    ensures { Whatever (template_lent (tables_of t.now))
+        (λ t. Laid limit (read_template t service (structure_with_template t id) body.now limit) buf.old result buf.new) }
 {
     match t.find_template(id) {
         Some(i) => template_reply(

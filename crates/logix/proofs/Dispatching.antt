@@ -8,7 +8,9 @@ use Prim.Native.Nat.{ℕ, ◌+◌, ◌-◌, ◌*◌, ◌<◌, ◌≤◌}
 use native.Mathlib.Omega.{arith}
 use lib.Dec.{ltb, eqb}
 use lib.ListN.{length, get_or, take, drop, length-drop}
+use lib.Seq.{length-take-le}
 use borrow.Author.Tests.{ltb-false, eq-eqb, ne_eqb, not-true, not-false}
+use Rattle.std.proofs.lemmas.List.{take_rest}
 use Rattle.laws.specs.Pick.{pick, both, is_some}
 use Rattle.laws.proofs.Chain.{by_test, clash}
 use Rattle.definition.specs.Bytes.{u16_at, part}
@@ -27,7 +29,6 @@ use Rattle.logix.specs.Answered.{EnvelopeTest}
 use Rattle.logix.proofs.Offsets.{HasParts}
 use Rattle.logix.specs.Placed.{Copied, PartAnswers}
 use Rattle.logix.specs.declared.parts.PartReply.{PartReply}
-use Rattle.laws.proofs.Parts.{to_end}
 use Rattle.logix.proofs.Placing.{copied_placed, in_the_tail, by_scratch}
 use Rattle.logix.proofs.Going.{parts_in, parts_in_long}
 
@@ -127,11 +128,11 @@ module _ (t : Tables) (f : Flags) (memory p : List ℕ) (budget service : ℕ) (
   -- through a scratch of eight bytes
   module _ (n : ℕ) (scratch new mem : List ℕ) (small : budget < 8) (eight : length scratch ≡ 8)
       (a : Answers budget (answer t f memory p budget) scratch n new mem) where
-    pub part_some : 3 ≤ n
-    part_some = omega (arith, a.length_is, whole.headed.long)
-
-    pub part_fits : length new ≡ length scratch → n ≤ length new
-    part_fits e = omega (arith, a.length_is, whole.fits)
+    pub in_scratch : length new ≡ length scratch → (n ≤ length new) × (n ≡ length (take n new)) × (3 ≤ length (take n new))
+    in_scratch e =
+        let fits : n ≤ length new = omega (arith, a.length_is, whole.fits) in
+        let cut = length-take-le n new fits in
+        (fits, sym cut, omega (arith, cut, a.length_is, whole.headed.long))
 
     pub part_by_scratch : (limit used : ℕ) (old : List ℕ) (r : PartReply) (end : List ℕ) → room limit ≤ length old → Copied (take n new) limit used old r end
         → PartAnswers (part_answer (part_dispatch t f) memory p budget) budget limit used old r end mem
@@ -143,7 +144,7 @@ module _ (t : Tables) (f : Flags) (memory p : List ℕ) (budget service : ℕ) (
 -- what a dispatch needs of the end of a buffer
 pub tail-room : (old : List ℕ) (budget limit used : ℕ) → 8 ≤ budget → budget ≤ limit - used → room limit ≤ length old
     → room budget ≤ length (take (length old - used) (drop used old))
-tail-room old budget limit used b l k = rw (to_end, length-drop) (omega arith)
+tail-room old budget limit used b l k = rw (take_rest, length-drop) (omega arith)
 
 pub part_declined : (d : Dispatcher) (memory p : List ℕ) (budget service limit used : ℕ) (old : List ℕ) (r : PartReply) (new : List ℕ) → service ≡ get_or p 0 0
     → service ≡ 0x0A

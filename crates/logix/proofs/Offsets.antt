@@ -8,6 +8,10 @@ use Prim.Native.Nat.{ℕ, zero, suc, ◌+◌, ◌-◌, ◌*◌, ◌≤◌, ◌<�
 use native.Mathlib.Omega.{arith}
 use native.Mathlib.Numerals.{add-one}
 use lib.Dec.{ltb, leb}
+use Rattle.std.specs.Int.{from_le_bytes, w16}
+use Rattle.std.specs.Prelude.{map}
+use Rattle.std.proofs.lemmas.List.{get_or-map, length-map}
+use Rattle.listing.specs.Numbers.{word}
 use lib.ListN.{length, get_or, drop, length-take, drop_of_length-le, get_or-eq_default}
 use lib.Seq.{drop-cons}
 use borrow.Author.Tests.{lt-ltb, le-ltb, le-leb, lt-leb, leb-true, ltb-true, ltb-false}
@@ -16,45 +20,48 @@ use Rattle.laws.proofs.Chain.{by_test, clash}
 use Rattle.laws.proofs.Tests.{both_true}
 use Rattle.definition.specs.Bytes.{u16_at, numbers, part, counted}
 use Rattle.definition.specs.Envelope.{ascending, parts_from, parts_of}
-use Rattle.definition.proofs.Numbers.{u16_drop, numbers_long, numbers_at}
+use Rattle.definition.proofs.Numbers.{numbers_long}
 use Rattle.logix.specs.Marked.{mark_at, PartOf}
+
+-- as the library reads two bytes
+as_word : (p : List ℕ) → from_le_bytes w16 p ≡ word p
+as_word p = omega arith
 
 -- ---- the offset of a part
 
-module _ (body : List ℕ) (count i : ℕ) where
-  pub mark_in : (x r : ℕ) → i < count → x ≡ u16_at body (2 + 2 * i) → r ≡ x → r ≡ mark_at body count i
+module _ (body : List ℕ) (pairs : List (List ℕ)) (i : ℕ) where
+  pub mark_in : map word pairs ≡ numbers (length pairs) (drop 2 body) → (p : List ℕ) (x r : ℕ) → i < length pairs → p ≡ get_or pairs i []
+      → x ≡ from_le_bytes w16 p → r ≡ x → r ≡ mark_at body (length pairs) i
   unfolding mark_at
-  mark_in x r h e q = q ∙ e ∙ sym (numbers_at count (drop 2 body) i (length body) h ∙ u16_drop body 2 (2 * i) (2 + 2 * i) refl)
+  mark_in read p x r h e w q =
+      q ∙ w ∙ as_word p ∙ ap word e ∙ sym (get_or-map word pairs i [] (length body) h) ∙ ap (λ (l : List ℕ). get_or l i (length body)) read
 
-  pub mark_end : count ≤ i → length body ≡ mark_at body count i
+  pub mark_end : length pairs ≤ i → length body ≡ mark_at body (length pairs) i
   unfolding mark_at
-  mark_end h = sym (get_or-eq_default (numbers count (drop 2 body)) (length body) (rw numbers_long h))
+  mark_end h = sym (get_or-eq_default (numbers (length pairs) (drop 2 body)) (length body) (rw numbers_long h))
 
 -- ---- offsets that do not fall back
 
-abbrev pub Ordered : (body : List ℕ) (count at i : ℕ) → Type 0
-Ordered body count at i =
-    ascending at (drop i (numbers count (drop 2 body))) (length body) ≡ ascending (2 + 2 * count) (numbers count (drop 2 body)) (length body)
+module _ (pairs : List (List ℕ)) (first end : ℕ) where
+  abbrev pub Ordered : (at i : ℕ) → Type 0
+  Ordered at i = ascending at (map word (drop i pairs)) end ≡ ascending first (map word pairs) end
 
-module _ (body : List ℕ) (count at i : ℕ) (here : Ordered body count at i) where
-  abbrev offsets : List ℕ
-  offsets = numbers count (drop 2 body)
+  module _ (at i : ℕ) (here : Ordered at i) where
+    module _ (x next : ℕ) (more : i < length pairs) (two : x ≡ from_le_bytes w16 (get_or pairs i [])) (is : next ≡ x) where
+      next_is : word (get_or pairs i []) ≡ next
+      next_is = sym (is ∙ two ∙ as_word (get_or pairs i []))
 
-  next_is : i < count → drop i offsets ≡ mark_at body count i ∷ drop (suc i) offsets
-  unfolding mark_at
-  next_is h = drop-cons offsets i (length body) (rw numbers_long h)
+      pub order_on : (j : ℕ) → at ≤ next → j ≡ i + 1 → Ordered next j
+      unfolding ascending
+      order_on j l t = rw (t, add-one) (rw (drop-cons pairs i [] more, next_is, le-leb at next l) at here)
 
-  pub order_on : (next j : ℕ) → i < count → next ≡ mark_at body count i → at ≤ next → j ≡ i + 1 → Ordered body count next j
-  unfolding ascending
-  order_on next j h e l t = rw (t, add-one) (rw (next_is h, ← e, le-leb at next l) at here)
+      pub order_off : next < at → false ≡ ascending first (map word pairs) end
+      unfolding ascending
+      order_off l = rw (drop-cons pairs i [] more, next_is, lt-leb at next l) at here
 
-  pub order_off : (next : ℕ) → i < count → next ≡ mark_at body count i → next < at → false ≡ ascending (2 + 2 * count) offsets (length body)
-  unfolding ascending
-  order_off next h e l = rw (next_is h, ← e, lt-leb at next l) at here
-
-  pub order_end : count ≤ i → leb at (length body) ≡ ascending (2 + 2 * count) offsets (length body)
-  unfolding ascending
-  order_end h = let l : length offsets ≤ i = rw numbers_long h in rw (drop_of_length-le offsets l) at here
+    pub order_end : length pairs ≤ i → leb at end ≡ ascending first (map word pairs) end
+    unfolding ascending
+    order_end h = rw (drop_of_length-le pairs h) at here
 
 -- an offset is not before the first and not behind the next, and the last not behind the end
 not_past : (at : ℕ) (os : List ℕ) (end : ℕ) → ascending at os end ≡ true → at ≤ end
@@ -123,19 +130,30 @@ module _ (body : List ℕ) where
   unfolding parts_of counted
   parts_by h = rw (le-ltb (length body) (2 + 2 * u16_at body 0) h, numbers_long)
 
-  pub has_none : (n : ℕ) → n ≡ u16_at body 0 → length body < 2 + 2 * n → false ≡ is_some (parts_of body)
-  has_none n e h = rw (parts_missing (rw (← e) h))
-
-  pub has_few : length body < 2 → false ≡ is_some (parts_of body)
-  has_few h = has_none (u16_at body 0) refl (omega arith)
-
   test_some : {A : Type 0} (t : Bool) (a : A) → t ≡ is_some (pick t (Some a) None)
   test_some true a = refl
   test_some false a = refl
 
-  pub has_order : (n : ℕ) (r : Bool) → n ≡ u16_at body 0 → 2 + 2 * n ≤ length body → r ≡ ascending (2 + 2 * n) (numbers n (drop 2 body)) (length body)
-      → r ≡ is_some (parts_of body)
-  has_order n r e h q = rw (parts_by (rw (← e) h)) ((rw e at q) ∙ test_some _ _)
+  pub none_read : None ≡ counted body → is_some (parts_of body) ≡ false
+  unfolding parts_of
+  none_read e = rw (← e) refl
+
+  module _ (pairs : List (List ℕ)) (e : Some (map word pairs) ≡ counted body) where
+    counted_is : map word pairs ≡ numbers (u16_at body 0) (drop 2 body)
+    unfolding counted
+    counted_is =
+        let n = u16_at body 0 in
+        by_test (ltb (length body) (2 + 2 * n)) (λ t. clash (cc (rw t at e))) (λ t. cc (rw t at e))
+
+    pub pairs_counted : length pairs ≡ u16_at body 0
+    pairs_counted = sym (length-map pairs word) ∙ ap (λ (l : List ℕ). length l) counted_is ∙ numbers_long (u16_at body 0) (drop 2 body)
+
+    pub pairs_read : map word pairs ≡ numbers (length pairs) (drop 2 body)
+    pairs_read = rw pairs_counted counted_is
+
+    pub pairs_order : (r : Bool) → r ≡ ascending (2 + 2 * length pairs) (map word pairs) (length body) → is_some (parts_of body) ≡ r
+    unfolding parts_of
+    pairs_order r q = rw (← e, length-map, ← q) (sym (test_some _ _))
 
   pub has_parts : (r : Bool) → r ≡ is_some (parts_of body) → r ≡ true → HasParts body
   has_parts r q y =
@@ -147,9 +165,6 @@ module _ (body : List ℕ) where
       let l = ltb-false (length body) (2 + 2 * n) t in
       let o : ascending (2 + 2 * n) (numbers n (drop 2 body)) (length body) ≡ true = test_some _ _ ∙ (rw (parts_by l) at some-there) in
       record { is = parts_by l ∙ rw o; long = l; order = o })
-
-  pub parts_inside : (count : ℕ) → is_some (parts_of body) ≡ true → count ≡ u16_at body 0 → 2 + 2 * count ≤ length body
-  parts_inside count p c = rw c (has_parts _ refl p).long
 
   module _ (count i start end : ℕ) (p : is_some (parts_of body) ≡ true) (c : count ≡ u16_at body 0) (h : i < count)
       (s : start ≡ mark_at body count i) (e : end ≡ mark_at body count (i + 1)) where
@@ -175,4 +190,4 @@ module _ (body : List ℕ) where
           shorter = omega (arith, lies.first, lies.rises, lies.last);
         }
 
-pub ruleset marks = (parts_inside, part_rises, part_inside, part_is)
+pub ruleset marks = (part_rises, part_inside, part_is)

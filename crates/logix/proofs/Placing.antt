@@ -5,10 +5,11 @@ use mathlib.Core.Bool.{Bool, true, false}
 use mathlib.Core.List.{List, [], ◌++◌, append-nil}
 use Prim.Native.Nat.{ℕ, ◌+◌, ◌-◌, ◌*◌, ◌%◌, ◌≤◌, ◌<◌}
 use native.Mathlib.Omega.{arith}
+use Rattle.std.proofs.lemmas.List.{get_or-drop}
 use lib.Dec.{leb, eqb}
 use lib.ListN.{length, get_or, take, drop, length-drop, drop_of_length-le, get_or-append}
 use lib.Seq.{take_all, length-take-le, take-append-add, drop-append-add, drop-drop, get_or-take, get_or-append-add}
-use borrow.Author.Tests.{le-leb, lt-leb, leb-true}
+use borrow.Author.Tests.{le-leb, leb-true}
 use Rattle.laws.specs.Put.{put, zeroed, laid}
 use Rattle.laws.proofs.Chain.{by_test}
 use Rattle.laws.proofs.Put.{take_put, drop_put_past, take-laid, drop-laid}
@@ -170,3 +171,7 @@ module _ (scratch new : List ℕ) (n : ℕ) (l : Laid 0 (fail envelope_service n
       let t : take n new ≡ fail envelope_service not_supported = rw (l.buffer_is, l.length_is)
       (take-laid (room 0) scratch (fail envelope_service not_supported)) in
       rw t at w
+
+-- a byte of the tail of a buffer
+pub tail_byte : (x : List ℕ) (used i : ℕ) → get_or (take (length x - used) (drop used x)) i 0 ≡ get_or x (used + i) 0
+tail_byte x used i = rw (take_all (length x - used) (drop used x) (omega (arith, length-drop used x)), get_or-drop)

@@ -1,45 +1,38 @@
 // An envelope's body: a count, as many offsets, and the parts.
-ghost use Rattle.std.specs.Prelude.{◌≡◌, true, ◌+◌, ◌*◌, ◌≤◌, ◌<◌, length, drop};
+ghost use Rattle.std.specs.Prelude.{◌≡◌, true, ◌+◌, ◌*◌, ◌≤◌, ◌<◌, length, drop, map};
 ghost use Rattle.laws.specs.Pick.{is_some};
 ghost use Rattle.definition.specs.Bytes.{u16_at, numbers};
 ghost use Rattle.definition.specs.Envelope.{ascending, parts_of};
+ghost use Rattle.listing.specs.Numbers.{word};
 ghost use Rattle.logix.specs.Marked.{mark_at, PartOf};
 
-/// An envelope's body that has as many parts as it says: the offsets start behind themselves, do not fall back and do not pass the end.
+use listing::numbers::Numbers;
+
+/// An envelope's body that has as many parts as it says, with their offsets, two bytes each: these start behind themselves, do not fall back and
+/// do not pass the end.
 #[derive(Clone, Copy)]
 pub struct Parts<'a> {
     pub body: &'a [u8],
-    pub count: usize,
-    ghost there: { is_some (parts_of body.now) ≡ true },
-    ghost counted: { count ≡ u16_at body.now 0 },
+    pub offsets: &'a [[u8; 2]],
+    pub ghost there: { is_some (parts_of body.now) ≡ true },
+    pub ghost counted: { length offsets.now ≡ u16_at body.now 0 },
+    pub ghost read: { map word offsets.now ≡ numbers (length offsets.now) (drop 2 body.now) },
 }
 
-/// The offset of a part, or the body's end behind the last one.
-fn mark(body: &[u8], count: usize, i: usize) -> usize
-    requires { 2 + 2 * count ≤ length body.now }
-    ensures { result ≡ mark_at body.now count i }
+/// Whether offsets start behind themselves, do not fall back and do not pass the end.
+fn in_order(offsets: &[[u8; 2]], end: usize) -> bool
+    requires { length offsets.now ≤ 65535 }
+    ensures { result ≡ ascending (2 + 2 * length offsets.now) (map word offsets.now) end }
 {
-    if i < count {
-        return usize::from(cip::u16_at(body, 2 + 2 * i));
-    }
-    body.len()
-}
-
-/// Whether the offsets start behind themselves, do not fall back and do not pass the end.
-fn in_order(body: &[u8], count: usize) -> bool
-    requires { 2 + 2 * count ≤ length body.now }
-    ensures { result ≡ ascending (2 + 2 * count) (numbers count (drop 2 body.now)) (length body.now) }
-{
-    let mut at = 2 + 2 * count;
-    // an index: `mark` reads each offset, here and for a part; over their pairs of bytes there would be a second reading beside it
-    for i in 0..count {
-        let next = mark(body, count, i);
+    let mut at = 2 + 2 * offsets.len();
+    for pair in offsets {
+        let next = usize::from(u16::from_le_bytes(*pair));
         if next < at {
             return false;
         }
         at = next;
     }
-    at <= body.len()
+    at <= end
 }
 
 impl<'a> Parts<'a> {
@@ -49,26 +42,30 @@ impl<'a> Parts<'a> {
     pub fn of(body: &'a [u8]) -> Option<Parts<'a>>
         ensures { HasParts body.now result }
     {
-        if body.len() < 2 {
+        let offsets = Numbers::read(body)?.pairs;
+        if !in_order(offsets, body.len()) {
             return None;
         }
-        let count = usize::from(cip::u16_at(body, 0));
-        if body.len() < 2 + 2 * count {
-            return None;
-        }
-        if !in_order(body, count) {
-            return None;
-        }
-        Some(Parts { body, count })
+        Some(Parts { body, offsets })
+    }
+
+    /// The offset of a part, or the body's end behind the last one.
+    fn mark(&self, i: usize) -> usize
+        ensures { result ≡ mark_at self.now.body.now (length self.now.offsets.now) i }
+    {
+        let Some(pair) = self.offsets.get(i) else {
+            return self.body.len();
+        };
+        usize::from(u16::from_le_bytes(*pair))
     }
 
     /// A part's bytes.
     pub fn part(&self, i: usize) -> &'a [u8]
-        requires { i < self.now.count }
-        ensures { PartOf self.now.body.now self.now.count i result.now }
+        requires { i < length self.now.offsets.now }
+        ensures { PartOf self.now.body.now (length self.now.offsets.now) i result.now }
     {
-        let start = mark(self.body, self.count, i);
-        let end = mark(self.body, self.count, i + 1);
+        let start = self.mark(i);
+        let end = self.mark(i + 1);
         &self.body[start..end]
     }
 }

@@ -8,10 +8,8 @@ ghost use Rattle.model.specs.Tables.{tables_of, flags_of};
 ghost use Rattle.services.specs.Answers.{Answers};
 ghost use Rattle.logix.specs.Entering.{number_of, entered, Enters};
 
+use cip::codes::MOST;
 use model::Controller;
-
-/// The largest request and the largest limit.
-const MOST: usize = 65535;
 
 /// Why a message gets no reply; nothing was changed.
 #[derive(Clone, Copy)]

@@ -68,7 +68,7 @@ fn multi_service(
     let Some(parts) = Parts::of(body) else {
         return cip::fail(buf, limit, ENVELOPE, Status::TooShort);
     };
-    let count = parts.count;
+    let count = parts.offsets.len();
     let mut used = parts::OFFSETS + 2 * count;
     let mut fine = true;
     // by numbers: where a part's offset stands, and how many parts are behind it, is said by its number
@@ -108,7 +108,7 @@ fn part(
         let len = dispatch(c, memory, p, budget, &mut buf[used..]);
         return PartReply {
             len,
-            fine: buf[used + 2] == 0,
+            fine: cip::replies::is_success(&buf[used..]),
         };
     }
     let mut scratch = [0u8; 8];

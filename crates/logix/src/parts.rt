@@ -8,16 +8,16 @@ ghost use Rattle.model.specs.Tables.{flags_of};
 ghost use Rattle.logix.specs.Answered.{EnvelopeTest};
 ghost use Rattle.logix.specs.Placed.{Copied, marked, outcome_of, Closed};
 
-use cip::Status;
 use cip::codes::{ENVELOPE, ROUTER_CLASS, ROUTER_INSTANCE};
+use cip::{Status, replies};
 use model::Flags;
 use path::Request;
 
-/// A reply's header and the count of parts.
-pub const OFFSETS: usize = 6;
-
 /// Where the count stands in a reply: the offsets are counted from there.
-const COUNT: usize = 4;
+const COUNT: usize = replies::HEADER;
+
+/// Behind the count.
+pub const OFFSETS: usize = COUNT + 2;
 
 /// What one part came to: its reply's length, and whether its status is 0.
 #[derive(Clone, Copy)]
@@ -76,7 +76,7 @@ pub fn place(buf: &mut [u8], limit: usize, used: usize, reply: &[u8]) -> PartRep
     }
     PartReply {
         len: reply.len(),
-        fine: reply[2] == 0,
+        fine: replies::is_success(reply),
     }
 }
 

@@ -71,13 +71,10 @@ abbrev pub for_start : (programs tags : List Row) (names tag_names : List ℕ) �
 for_start programs tags names tag_names o =
     tables_from o.structures o.members programs tags o.others names tag_names o.templates
 
-abbrev pub for_tag : (tags : List Row) (tag_names : List ℕ) → Tables → Tables
-for_tag tags tag_names o = for_start o.programs tags o.names tag_names o
-
 abbrev pub for_walk : (structures members : List Row) (names : List ℕ) → Tables → Tables
 for_walk structures members names o = for_path structures members o.programs o.tags names o.tag_names o
 
--- to list symbols; to find the scope that is listed; to make a page of a scope's symbols; to make a symbol of a tag
+-- to list symbols; to find the scope that is listed; to make a page of a scope's symbols
 abbrev pub for_list : (structures programs tags others : List Row) (names tag_names : List ℕ) → Tables → Tables
 for_list structures programs tags others names tag_names o =
     tables_from structures o.members programs tags others names tag_names o.templates
@@ -87,9 +84,6 @@ for_scope programs names o = for_start programs o.tags names o.tag_names o
 
 abbrev pub for_page : (structures tags others : List Row) (names tag_names : List ℕ) → Tables → Tables
 for_page structures tags others names tag_names o = for_list structures o.programs tags others names tag_names o
-
-abbrev pub for_symbol : (structures : List Row) → Tables → Tables
-for_symbol structures o = for_walk structures o.members o.names o
 
 -- to answer a symbol's attributes; a template
 abbrev pub for_attributes : (programs tags others : List Row) (names : List ℕ) → Tables → Tables

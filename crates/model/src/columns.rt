@@ -90,5 +90,14 @@ pub const SYMBOL_NAME_LENGTH: usize = 2;
 
 pub const SYMBOL_ID: usize = 3;
 
+/// An access that turns writes away.
+pub const READ_ONLY: u32 = 2;
+
+/// The largest access, which turns reads away too; below 2 none is turned away.
+pub const NO_ACCESS: u32 = 3;
+
+/// The scope of the controller's own symbols; `lookup::program_scope` is a program's.
+pub const CONTROLLER_SCOPE: u32 = 0;
+
 /// A member's or a target's bit where it is no bit of a byte.
 pub const NO_BIT: u32 = 8;

@@ -4,6 +4,13 @@ ghost use Rattle.model.specs.Least.{nearer, least_row, least_in, nearest, next_i
 
 use crate::columns::{SYMBOL_ID, SYMBOL_SCOPE};
 
+/// A scope, and the ID from which on its symbols are looked for: behind the largest ID it exceeds 32 bits.
+#[derive(Clone, Copy)]
+pub struct Bound {
+    pub scope: u32,
+    pub id: u64,
+}
+
 /// A row's place and its ID.
 #[derive(Clone, Copy)]
 pub struct Listed {
@@ -28,33 +35,31 @@ fn nearer(here: Listed, rest: Option<Listed>) -> Listed
     }
 }
 
-/// One row of the search, before the rest. A bound may exceed 32 bits.
+/// One row of the search, before the rest.
 fn least_from<const N: usize>(
     place: usize,
     row: &[u32; N],
-    scope: u32,
-    bound: u64,
+    from: Bound,
     rest: Option<Listed>,
 ) -> Option<Listed>
     requires { 3 < N }
-    ensures { result ≡ least_row scope bound place row.now rest }
+    ensures { result ≡ least_row from.scope from.id place row.now rest }
 {
     let id = row[SYMBOL_ID];
-    if row[SYMBOL_SCOPE] == scope && bound <= u64::from(id) {
+    if row[SYMBOL_SCOPE] == from.scope && from.id <= u64::from(id) {
         return Some(nearer(Listed { place, id }, rest));
     }
     rest
 }
 
 /// The row of the least ID not below a bound, among a scope's rows.
-pub fn least_in<const N: usize>(rows: &[[u32; N]], scope: u32, bound: u64) -> Option<Listed>
+pub fn least_in<const N: usize>(rows: &[[u32; N]], from: Bound) -> Option<Listed>
     requires { 3 < N }
-    ensures { result ≡ least_in scope bound rows.now }
+    ensures { result ≡ least_in from.scope from.id rows.now }
 {
     let mut best = None;
-    // by places: the library's laws say what `rev` of a slice brings, and not of `enumerate`
-    for place in (0..rows.len()).rev() {
-        best = least_from(place, &rows[place], scope, bound, best);
+    for (place, row) in rows.iter().enumerate().rev() {
+        best = least_from(place, row, from, best);
     }
     best
 }
@@ -71,8 +76,8 @@ fn nearest(tag: Option<Listed>, other: Option<Listed>) -> Option<Next>
 }
 
 /// The symbol of the least ID not below a bound.
-pub fn next_symbol(tags: &[[u32; 12]], others: &[[u32; 5]], scope: u32, bound: u64) -> Option<Next>
-    ensures { result ≡ next_in tags.now others.now scope bound }
+pub fn next_symbol(tags: &[[u32; 12]], others: &[[u32; 5]], from: Bound) -> Option<Next>
+    ensures { result ≡ next_in tags.now others.now from.scope from.id }
 {
-    nearest(least_in(tags, scope, bound), least_in(others, scope, bound))
+    nearest(least_in(tags, from), least_in(others, from))
 }

@@ -6,6 +6,7 @@ ghost use Rattle.model.specs.Tables.{flags_of, flags_in};
 
 pub mod columns;
 pub mod least;
+pub mod limits;
 pub mod lookup;
 pub mod shapes;
 pub mod tables;

@@ -1,6 +1,6 @@
 // Lookups in table rows, each the first in table order.
-ghost use Rattle.std.specs.Prelude.{◌≡◌, ◌<◌, take, drop};
-ghost use Rattle.definition.specs.Lookup.{program_in, tag_in, id_in, member_in, template_in, local_in};
+ghost use Rattle.std.specs.Prelude.{◌≡◌, ◌+◌, ◌<◌, ◌≤◌, take, drop};
+ghost use Rattle.definition.specs.Lookup.{id_in, member_in, local_in};
 ghost use Rattle.model.specs.Rows.{program_is, tag_is, id_is, member_is, template_is, is_local_row};
 
 use crate::columns::{
@@ -16,6 +16,14 @@ pub fn part_of<T>(store: &[T], start: u32, n: u32) -> &[T]
 {
     let rest = store.get(start as usize..).unwrap_or(&[]);
     rest.get(..n as usize).unwrap_or(rest)
+}
+
+/// The scope of a program's symbols, by its position.
+pub fn program_scope(k: usize) -> u32
+    requires { k ≤ 65535 }
+    ensures { result ≡ k + 1 }
+{
+    k as u32 + 1
 }
 
 pub fn program_is(row: &[u32; 2], names: &[u8], name: &[u8]) -> bool

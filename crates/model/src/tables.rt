@@ -7,7 +7,7 @@ ghost use Rattle.model.specs.Tables.{tables_of};
 ghost use Rattle.model.specs.Least.{next_in};
 
 use crate::columns::{STRUCTURE_FIRST_MEMBER, STRUCTURE_MEMBERS};
-use crate::least::Next;
+use crate::least::{Bound, Next};
 use crate::{least, lookup, types};
 
 /// A table set as flat rows: structures, members, programs, tags and other symbols, the names of all but the tags, the names of the tags, and
@@ -67,9 +67,9 @@ impl<'a> Tables<'a> {
     }
 
     /// The symbol of the least ID not below a bound, among a scope's tags and other symbols.
-    pub fn next_symbol(&self, scope: u32, bound: u64) -> Option<Next>
-        ensures { result ≡ next_in self.now.tags.now self.now.others.now scope bound }
+    pub fn next_symbol(&self, from: Bound) -> Option<Next>
+        ensures { result ≡ next_in self.now.tags.now self.now.others.now from.scope from.id }
     {
-        least::next_symbol(self.tags, self.others, scope, bound)
+        least::next_symbol(self.tags, self.others, from)
     }
 }

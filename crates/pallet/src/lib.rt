@@ -18,17 +18,25 @@ pub const FLAGS: Flags = Flags {
 };
 
 /// `CellType`, 4 bytes, with one member and a template of 8 bytes.
-pub const STRUCTURES: [[u32; 10]; 1] = [[0, 8, 0x100, 0x1234, 4, 0, 1, 0, 0, 8]];
+pub const CELL_TYPE: [u32; 10] = [0, 8, 0x100, 0x1234, 4, 0, 1, 0, 0, 8];
 
-/// `Run`, bit 2 of byte 0.
-pub const MEMBERS: [[u32; 9]; 1] = [[8, 3, 0xC1, 0, 0, 2, 0, 0, 0]];
+/// Bit 2 of byte 0.
+pub const RUN: [u32; 9] = [8, 3, 0xC1, 0, 0, 2, 0, 0, 0];
 
-/// `Count` DINT; `Rows` DINT, length 10; `Cell`.
-pub const TAGS: [[u32; 12]; 3] = [
-    [0, 0, 5, 1, 0xC4, 0, 0, 0, 1, 0, 0, 0],
-    [0, 5, 4, 2, 0xC4, 10, 0, 0, 10, 0, 0, 4],
-    [0, 9, 4, 0xFFFF_FFFF, 0x100, 0, 0, 0, 1, 0, 0, 44],
-];
+/// DINT.
+pub const COUNT: [u32; 12] = [0, 0, 5, 1, 0xC4, 0, 0, 0, 1, 0, 0, 0];
+
+/// DINT, length 10.
+pub const ROWS: [u32; 12] = [0, 5, 4, 2, 0xC4, 10, 0, 0, 10, 0, 0, 4];
+
+/// Of type `CellType`.
+const CELL: [u32; 12] = [0, 9, 4, 0xFFFF_FFFF, 0x100, 0, 0, 0, 1, 0, 0, 44];
+
+pub const STRUCTURES: [[u32; 10]; 1] = [CELL_TYPE];
+
+pub const MEMBERS: [[u32; 9]; 1] = [RUN];
+
+pub const TAGS: [[u32; 12]; 3] = [COUNT, ROWS, CELL];
 
 pub const NAMES: [u8; 11] = *b"CellTypeRun";
 

@@ -7,3 +7,4 @@ pub mod Reaching
 pub mod Requests
 pub mod Agreeing
 pub mod Decoding
+pub mod ProgramNames

@@ -4,6 +4,7 @@ use Rattle.std.specs.Borrow.{Bor}
 use Rattle.laws.specs.Pick.{pick, both, is_some}
 use Rattle.definition.specs.Bytes.{part}
 use Rattle.definition.specs.Segment.{Segment as Defined, port, class, instance, element, attribute, symbol, Step as DefinedStep, step, cut, within, logical_at, sized_at, segment_at, segments_from, segments}
+use Rattle.definition.specs.Names.{is_program_name, after_program}
 use Rattle.definition.specs.Request.{malformed, with_path, request_of, no_object, object_of, is_tag_path}
 use Rattle.path.specs.declared.Segment.{Segment}
 use Rattle.path.specs.declared.Segment.TheVariants.{Port, Class, Instance, Element, Attribute, Symbol}
@@ -124,3 +125,7 @@ ObjectAt path at None = (l : List Defined) → segments_from path at ≡ Some l 
 -- one of A to Z and the same letter in lower case
 abbrev pub is_upper_of : (x y : ℕ) → Bool
 is_upper_of x y = both (both (leb 0x41 x) (leb x 0x5A)) (eqb (x + 0x20) y)
+
+abbrev pub AfterProgram : (name : List ℕ) → Option (Bor (List ℕ)) → Type 0
+AfterProgram name None = is_program_name name ≡ false
+AfterProgram name (Some rest) = (is_program_name name ≡ true) × (rest.now ≡ after_program name)

@@ -8,7 +8,7 @@ ghost use Rattle.definition.specs.Names.{same_byte, same_name, is_program_name};
 ghost use Rattle.path.specs.Paths.{is_upper_of};
 ghost use Rattle.definition.specs.Segment.{segment_at, segments_from};
 ghost use Rattle.path.specs.First.{bits_of, logical_of};
-ghost use Rattle.path.specs.Paths.{segment_of, Decoded, ValueAt, NameAt, LinkAt, tag_path_from, instance_in, ObjectAt, Splits};
+ghost use Rattle.path.specs.Paths.{segment_of, Decoded, ValueAt, NameAt, LinkAt, tag_path_from, instance_in, AfterProgram, ObjectAt, Splits};
 
 pub mod reader;
 pub mod request;
@@ -174,13 +174,25 @@ pub fn same_name(a: &[u8], b: &[u8]) -> bool
     agree(&a[middle..], &b[middle..]) && agree(&a[..middle], &b[..middle])
 }
 
-const PROGRAM_PREFIX: [u8; 8] = *b"program:";
+/// What a program's name starts with, in any case.
+pub const PROGRAM_PREFIX: [u8; 8] = *b"program:";
 
 /// `program:`, case ignored, and at least one byte more.
 pub fn is_program_name(name: &[u8]) -> bool
     ensures { result ≡ is_program_name name.now }
 {
-    name.len() > PROGRAM_PREFIX.len() && same_name(&name[..8], &PROGRAM_PREFIX)
+    name.len() > PROGRAM_PREFIX.len() && same_name(&name[..PROGRAM_PREFIX.len()], &PROGRAM_PREFIX)
+}
+
+/// A program's name without its prefix; none for any other name.
+#[tactic(auto, using(crate::proofs::ProgramNames::named))]
+pub fn after_program(name: &[u8]) -> Option<&[u8]>
+    ensures { AfterProgram name.now result }
+{
+    if !is_program_name(name) {
+        return None;
+    }
+    Some(&name[PROGRAM_PREFIX.len()..])
 }
 
 // ---- tag paths and objects

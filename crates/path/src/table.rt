@@ -36,37 +36,25 @@ pub enum Format {
 /// No segment that is taken.
 const NONE: [Option<First>; 4] = [None, None, None, None];
 
-/// Class in its four formats.
-const CLASS: [Option<First>; 4] = [
-    Some(First::Logical(Logical::Class, Format::Bits8)),
-    Some(First::Logical(Logical::Class, Format::PadAnd16)),
-    Some(First::Logical(Logical::Class, Format::PadAnd32)),
-    Some(First::Logical(Logical::Class, Format::Reserved)),
-];
+/// A logical type in its four formats; a macro, since a constant's value can call no function.
+macro_rules! formats {
+    ($logical:ident) => {
+        [
+            Some(First::Logical(Logical::$logical, Format::Bits8)),
+            Some(First::Logical(Logical::$logical, Format::PadAnd16)),
+            Some(First::Logical(Logical::$logical, Format::PadAnd32)),
+            Some(First::Logical(Logical::$logical, Format::Reserved)),
+        ]
+    };
+}
 
-/// Instance in its four formats.
-const INSTANCE: [Option<First>; 4] = [
-    Some(First::Logical(Logical::Instance, Format::Bits8)),
-    Some(First::Logical(Logical::Instance, Format::PadAnd16)),
-    Some(First::Logical(Logical::Instance, Format::PadAnd32)),
-    Some(First::Logical(Logical::Instance, Format::Reserved)),
-];
+const CLASS: [Option<First>; 4] = formats!(Class);
 
-/// Element in its four formats.
-const ELEMENT: [Option<First>; 4] = [
-    Some(First::Logical(Logical::Element, Format::Bits8)),
-    Some(First::Logical(Logical::Element, Format::PadAnd16)),
-    Some(First::Logical(Logical::Element, Format::PadAnd32)),
-    Some(First::Logical(Logical::Element, Format::Reserved)),
-];
+const INSTANCE: [Option<First>; 4] = formats!(Instance);
 
-/// Attribute in its four formats.
-const ATTRIBUTE: [Option<First>; 4] = [
-    Some(First::Logical(Logical::Attribute, Format::Bits8)),
-    Some(First::Logical(Logical::Attribute, Format::PadAnd16)),
-    Some(First::Logical(Logical::Attribute, Format::PadAnd32)),
-    Some(First::Logical(Logical::Attribute, Format::Reserved)),
-];
+const ELEMENT: [Option<First>; 4] = formats!(Element);
+
+const ATTRIBUTE: [Option<First>; 4] = formats!(Attribute);
 
 const LINK: Option<First> = Some(First::Port {
     numbered: false,

@@ -1,8 +1,8 @@
 -- Where a resolved target lies: its first byte, so many of its elements, and an element of an atomic type, are in tag memory.
 -- Assumes nothing.
 use mathlib.Core.List.{List}
-use Prim.Native.Nat.{ℕ, ◌+◌, ◌*◌, ◌≤◌, ◌<◌}
-use native.Mathlib.Nat.{mul-pos, mul-le-mul_right}
+use Prim.Native.Nat.{ℕ, ◌+◌, ◌*◌, ◌≤◌}
+use native.Mathlib.Nat.{mul-le-mul_right}
 use native.Mathlib.Omega.{arith}
 use Rattle.definition.specs.Tables.{Row}
 use Rattle.definition.specs.Types.{atomic_size}

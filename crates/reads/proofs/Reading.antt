@@ -1,6 +1,6 @@
 -- Reads: the refusals as the code has them, and a fragment's reply by its pieces, laid out.
 -- Assumes nothing.
-use mathlib.Core.Path.{◌≡◌, refl, sym, ◌∙◌}
+use mathlib.Core.Path.{◌≡◌, sym, ◌∙◌}
 use mathlib.Core.Bool.{false}
 use mathlib.Core.Logic.{◌≢◌}
 use mathlib.Core.List.{List, [], ◌∷◌, ◌++◌, append_assoc}
@@ -14,7 +14,7 @@ use Rattle.laws.specs.Put.{put, zeroed}
 use Rattle.laws.proofs.Chain.{by_test, pick_all, clash}
 use Rattle.laws.proofs.Put.{put_then}
 use Rattle.definition.specs.Bytes.{part}
-use Rattle.definition.specs.Reply.{Status, general, extended, reply, fail, room}
+use Rattle.definition.specs.Reply.{Status, general, reply, fail, room}
 use Rattle.definition.specs.Tables.{Row, no_bit}
 use Rattle.definition.specs.Types.{is_structure, size_in, type_header}
 use Rattle.definition.specs.Resolve.{Target}
@@ -24,6 +24,7 @@ use Rattle.definition.proofs.Cut.{size_le, size_fits}
 use Rattle.cip.specs.Statuses.{status_of, has_word}
 use Rattle.cip.specs.Writes.{Written, Laid}
 use Rattle.cip.proofs.Laws.{finished}
+use Rattle.cip.proofs.Capped.{reply-body, header_four}
 use Rattle.reads.specs.Reading.{grant_of, asked_by, header_size}
 use Rattle.std.specs.Prelude.{Result, Ok, Err}
 use Rattle.cip.specs.declared.Status.{Status as CodeStatus}
@@ -71,18 +72,7 @@ pub header-length : (structures : List Row) (type : ℕ) → length (type_header
 unfolding type_header
 header-length structures type = by_test (is_structure type) (λ e. rw e) (λ e. rw e)
 
--- a status without an extended word, and what stands behind it
-pub plain_start : (service : ℕ) (s : Status) → has_word s ≡ false → length (reply service s []) ≡ 4
-unfolding reply
-plain_start service (general code) e = refl
-plain_start service (extended code word) e = clash (cc e)
-
-reply-join : (service : ℕ) (s : Status) (bytes : List ℕ) → reply service s [] ++ bytes ≡ reply service s bytes
-unfolding reply
-reply-join service (general code) bytes = refl
-reply-join service (extended code word) bytes = refl
-
-pub ruleset headers = (plain_start, header-length, header-few)
+pub ruleset headers = (header_four, header-length, header-few)
 
 -- a reply's header, a type header and the bytes behind it, written one after the other
 pub fragment_put : (service type used h : ℕ) (s : Status) (structures : List Row) (bytes old x y z : List ℕ) → has_word s ≡ false
@@ -90,7 +80,7 @@ pub fragment_put : (service type used h : ℕ) (s : Status) (structures : List R
     → Written 0 (reply service s []) old used x → Written used (type_header structures type) x h y → z ≡ put y (used + h) bytes
     → Written 0 (reply service s (type_header structures type ++ bytes)) old (used + h + length bytes) z
 fragment_put service type used h s structures bytes old x y z plain fits a b d =
-    let four = plain_start service s plain in
+    let four = header_four service s plain in
     let few = header-length structures type in
     let u = a.length_is in
     let v = b.length_is in
@@ -98,7 +88,7 @@ fragment_put service type used h s structures bytes old x y z plain fits a b d =
     let l = length-append (reply service s []) (type_header structures type) in
     let three = put_then _ _ _ 0 _ _ _ two d (omega arith) (omega arith) in
     let e : (reply service s [] ++ type_header structures type) ++ bytes ≡ reply service s (type_header structures type ++ bytes) =
-    append_assoc (reply service s []) (type_header structures type) bytes ∙ reply-join service s (type_header structures type ++ bytes) in
+    append_assoc (reply service s []) (type_header structures type) bytes ∙ reply-body service s (type_header structures type ++ bytes) in
     let m = length-append (reply service s [] ++ type_header structures type) bytes in
     rw (← e) (record { length_is = omega arith; buffer_is = three })
 

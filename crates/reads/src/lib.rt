@@ -34,20 +34,14 @@ pub struct ReadFields {
 pub fn read_fields(service: u8, body: &[u8]) -> Option<ReadFields>
     ensures { fields_as result ≡ read_fields service body.now }
 {
-    if body.len() < 2 {
-        return None;
-    }
-    let elements = usize::from(cip::u16_at(body, 0));
+    let elements = usize::from(cip::u16_at(body.get(..2)?, 0));
     if service != READ_FRAGMENTED {
         return Some(ReadFields {
             elements,
             offset: 0,
         });
     }
-    if body.len() < 6 {
-        return None;
-    }
-    let offset = cip::u32_at(body, 2) as usize;
+    let offset = cip::u32_at(body.get(2..6)?, 0) as usize;
     Some(ReadFields { elements, offset })
 }
 
@@ -136,58 +130,53 @@ fn status_of(due: usize, s: usize) -> Status
     }
 }
 
-/// A reply's header, the type header and the data; returns their length.
-#[tactic(auto, using(crate::proofs::Reading::headers))]
-fn put_fragment(
-    buf: &mut [u8],
-    t: &Tables,
-    ty: u32,
+/// What the reply to a read begins with: the service that it answers, and the type of its data among the structures.
+#[derive(Clone, Copy)]
+struct Head<'a> {
     service: u8,
-    status: Status,
-    bytes: &[u8],
-) -> usize
-    requires { (has_word (status_of status) ≡ false) × (8 ≤ length buf.old) × (4 + header_size ty + length bytes.now ≤ length buf.old) }
-    ensures { Written 0 (reply service (status_of status) (type_header t.now.structures.now ty ++ bytes.now)) buf.old result
-        buf.new }
-{
-    let used = cip::put_header(buf, service, status);
-    let behind = used + model::types::put_type_header(buf, used, t.structures, ty);
-    cip::copy_into(buf, behind, bytes);
-    behind + bytes.len()
+    structures: &'a [[u32; 10]],
+    ty: u32,
 }
 
-/// Sends as many bytes of a chunk as fit.
-fn send_chunk(t: &Tables, chunk: &[u8], ty: u32, service: u8, limit: usize, buf: &mut [u8]) -> usize
-    requires { room limit ≤ length buf.old }
-    ensures { Laid limit (fragment_reply service (type_header t.now.structures.now ty) chunk.now limit) buf.old result
-        buf.new }
-{
-    let due = chunk.len();
-    let s = space_of(header_size(ty), limit);
-    let bytes = &chunk[..size_of(due, s)];
-    let used = put_fragment(buf, t, ty, service, status_of(due, s), bytes);
-    cip::finish(buf, limit, used)
-}
-
-/// Sends the bytes of a value from an offset on; the offset is checked last.
-#[tactic(auto, using(laws::proofs::Chain::chain), unfolding(definition::specs::Read::send_from))]
-fn send_from(
-    t: &Tables,
-    value: &[u8],
-    ty: u32,
-    service: u8,
-    offset: usize,
-    limit: usize,
-    buf: &mut [u8],
-) -> usize
-    requires { room limit ≤ length buf.old }
-    ensures { Laid limit (send_from service (type_header t.now.structures.now ty) value.now offset limit) buf.old result
-        buf.new }
-{
-    if value.len() <= offset {
-        return cip::fail(buf, limit, service, Status::BeyondEnd);
+impl<'a> Head<'a> {
+    /// A reply's header, the type header and the data; returns their length.
+    #[tactic(auto, using(crate::proofs::Reading::headers))]
+    fn put(&self, buf: &mut [u8], status: Status, bytes: &[u8]) -> usize
+        requires { (has_word (status_of status) ≡ false) × (8 ≤ length buf.old) × (4 + header_size self.now.ty + length bytes.now ≤ length buf.old) }
+        ensures { Written 0 (reply self.now.service (status_of status) (type_header self.now.structures.now self.now.ty ++ bytes.now)) buf.old result
+            buf.new }
+    {
+        let used = cip::put_header(buf, self.service, status);
+        let behind = used + model::types::put_type_header(buf, used, self.structures, self.ty);
+        cip::copy_into(buf, behind, bytes);
+        behind + bytes.len()
     }
-    send_chunk(t, &value[offset..], ty, service, limit, buf)
+
+    /// Sends as many bytes of a chunk as fit.
+    fn send_chunk(&self, chunk: &[u8], limit: usize, buf: &mut [u8]) -> usize
+        requires { room limit ≤ length buf.old }
+        ensures { Laid limit (fragment_reply self.now.service (type_header self.now.structures.now self.now.ty) chunk.now limit) buf.old result
+            buf.new }
+    {
+        let due = chunk.len();
+        let s = space_of(header_size(self.ty), limit);
+        let bytes = &chunk[..size_of(due, s)];
+        let used = self.put(buf, status_of(due, s), bytes);
+        cip::finish(buf, limit, used)
+    }
+
+    /// Sends the bytes of a value from an offset on; the offset is checked last.
+    #[tactic(auto, using(laws::proofs::Chain::chain), unfolding(definition::specs::Read::send_from))]
+    fn send_from(&self, value: &[u8], offset: usize, limit: usize, buf: &mut [u8]) -> usize
+        requires { room limit ≤ length buf.old }
+        ensures { Laid limit (send_from self.now.service (type_header self.now.structures.now self.now.ty) value.now offset limit) buf.old result
+            buf.new }
+    {
+        if value.len() <= offset {
+            return cip::fail(buf, limit, self.service, Status::BeyondEnd);
+        }
+        self.send_chunk(&value[offset..], limit, buf)
+    }
 }
 
 /// Sends what a granted read selects: a bit as one BOOL byte, else so many elements.
@@ -204,14 +193,19 @@ fn send_selected(
     ensures { Laid limit (send service (granted (selection t.now.structures.now (target_of g []) fields.elements))
         memory.now fields.offset limit) buf.old result buf.new }
 {
+    let head = Head {
+        service,
+        structures: t.structures,
+        ty: g.ty,
+    };
     let start = g.start;
     if g.bit != NO_BIT {
         let value = [bits::bit_of(memory[start], g.bit)];
-        return send_from(t, &value, g.ty, service, fields.offset, limit, buf);
+        return head.send_from(&value, fields.offset, limit, buf);
     }
     let size = fields.elements * g.size;
     let value = chunk(t.templates, memory, Store::Memory, start, size);
-    send_from(t, value, g.ty, service, fields.offset, limit, buf)
+    head.send_from(value, fields.offset, limit, buf)
 }
 
 /// One read of a resolved target, whoever decoded it; returns the reply's length.

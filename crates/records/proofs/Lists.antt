@@ -2,12 +2,16 @@
 -- Assumes nothing.
 use mathlib.Core.Path.{◌≡◌, refl, sym, ap, ◌∙◌}
 use mathlib.Core.List.{List, [], ◌∷◌}
-use Prim.Native.Nat.{ℕ, zero, suc, ◌≤◌, ◌<◌}
+use Prim.Native.Nat.{ℕ, zero, suc, min, ◌+◌, ◌<◌}
+use native.Mathlib.Omega.{arith}
+use native.Mathlib.Numerals.{add-one}
 use native.Mathlib.Nat.{not-suc-le-zero, le_of_suc-le-suc}
-use lib.ListN.{length, get_or, set, take, drop, length-map, get_or-map}
+use lib.ListN.{length, get_or, set, take, length-map}
+use lib.Seq.{take-suc, take-suc-set}
+use Rattle.std.proofs.lemmas.List.{map-append, length-take-le}
 use Rattle.definition.specs.Tables.{Row}
 use Rattle.records.specs.declared.Tag.{Tag}
-use Rattle.records.specs.Records.{row_of, tag_of, no_tag, tag_at, row_at, rows_of}
+use Rattle.records.specs.Records.{row_of, tag_of, tag_at, rows_of}
 
 -- ---- a row of twelve words and a record with three lengths mean each other
 
@@ -45,9 +49,6 @@ tag_of_row t e = ap {B = Tag} (λ (l : List ℕ). record {
 pub rows-count : (ts : List Tag) → length ts ≡ length (rows_of ts)
 rows-count ts = sym (length-map ts row_of)
 
-pub rows_at : (ts : List Tag) (i : ℕ) → row_of (tag_at ts i) ≡ row_at (rows_of ts) i
-rows_at ts i = sym (get_or-map row_of ts i no_tag)
-
 -- what the code reads past a list's end
 abbrev pub past_end : Tag
 past_end = record { scope = 0; name_start = 0; name_length = 0; id = 0; ty = 0; lengths = []; elements = 0; access = 0; alias = 0; offset = 0 }
@@ -63,37 +64,15 @@ rows-set [] i t = refl
 rows-set (x ∷ ts) zero t = refl
 rows-set (x ∷ ts) (suc i) t = ap {B = List Row} (λ rs. row_of x ∷ rs) (rows-set ts i t)
 
--- ---- packed one after the other
+-- ---- packed one after the other: the first i of the n rows that there is room for
 
--- the rows once the first i records are packed
-abbrev pub packed : ℕ → List Tag → List Row → List Row
-packed zero ts rows = rows
-packed (suc i) [] rows = rows
-packed (suc i) (t ∷ ts) [] = []
-packed (suc i) (t ∷ ts) (r ∷ rows) = row_of t ∷ packed i ts rows
+module _ (ts : List Tag) (rows packed : List Row) (n i : ℕ) (is : n ≡ min (length ts) (length rows)) (long : length packed ≡ length (take n rows))
+    (done : take i packed ≡ rows_of (take i ts)) where
+  room : length (take n rows) ≡ n
+  room = length-take-le n rows (omega (arith, is))
 
-pub packed_length : (i : ℕ) (ts : List Tag) (rows : List Row) → length (packed i ts rows) ≡ length rows
-packed_length zero ts rows = refl
-packed_length (suc i) [] rows = refl
-packed_length (suc i) (t ∷ ts) [] = refl
-packed_length (suc i) (t ∷ ts) (r ∷ rows) = ap suc (packed_length i ts rows)
-
--- one more
-pub packed_next : (i : ℕ) (ts : List Tag) (rows : List Row) → i < length ts → i < length rows
-    → set (packed i ts rows) i (row_of (tag_at ts i)) ≡ packed (suc i) ts rows
-packed_next i [] rows h k = absurd (not-suc-le-zero h)
-packed_next i (t ∷ ts) [] h k = absurd (not-suc-le-zero k)
-packed_next zero (t ∷ ts) (r ∷ rows) h k = refl
-packed_next (suc i) (t ∷ ts) (r ∷ rows) h k = ap {B = List Row} (λ rs. row_of t ∷ rs) (packed_next i ts rows (le_of_suc-le-suc h) (le_of_suc-le-suc k))
-
-pub packed_first : (n : ℕ) (ts : List Tag) (rows : List Row) → n ≤ length ts → n ≤ length rows → take n (packed n ts rows) ≡ rows_of (take n ts)
-packed_first zero ts rows h k = refl
-packed_first (suc n) [] rows h k = absurd (not-suc-le-zero h)
-packed_first (suc n) (t ∷ ts) [] h k = absurd (not-suc-le-zero k)
-packed_first (suc n) (t ∷ ts) (r ∷ rows) h k = ap {B = List Row} (λ rs. row_of t ∷ rs) (packed_first n ts rows (le_of_suc-le-suc h) (le_of_suc-le-suc k))
-
-pub packed_rest : (n : ℕ) (ts : List Tag) (rows : List Row) → drop n (packed n ts rows) ≡ drop n rows
-packed_rest zero ts rows = refl
-packed_rest (suc n) [] rows = refl
-packed_rest (suc n) (t ∷ ts) [] = refl
-packed_rest (suc n) (t ∷ ts) (r ∷ rows) = packed_rest n ts rows
+  -- one more
+  pub packed_next : (j : ℕ) (r : Row) → i < length (take n rows) → r ≡ row_of (get_or ts i past_end) → j ≡ i + 1
+      → take j (set packed i r) ≡ rows_of (take j ts)
+  packed_next j r h e m =
+      rw (m, add-one, take-suc-set packed i r (omega (arith, long, h)), take-suc ts i past_end (omega (arith, room, is)), map-append, done, e) refl

@@ -4,48 +4,32 @@ use mathlib.Core.Path.{◌≡◌, refl, ap, ◌∙◌}
 use mathlib.Core.Bool.{Bool}
 use mathlib.Core.List.{List, [], ◌∷◌}
 use Rattle.std.specs.Prelude.{Option, None, Some}
-use Prim.Native.Nat.{ℕ, suc, ◌+◌}
-use native.Mathlib.Omega.{arith}
-use denote.Ref.{Bor}
-use native.Mathlib.Nat.{add-zero, zero-add}
-use native.Mathlib.Numerals.{add-one}
-use Rattle.std.specs.List.{find, enumerate_from}
-use Rattle.std.specs.Option.{MatchOption, IsSomeAnd, option_map}
+use Prim.Native.Nat.{ℕ, suc, ◌<◌}
+use lib.ListN.{get_or, length}
+use Rattle.std.specs.Option.{IfSome, MatchOption, IsSomeAnd}
 use Rattle.laws.specs.Scan.{scan}
-use Rattle.laws.proofs.Chain.{by_test}
 use Rattle.definition.specs.Tables.{Row}
 use Rattle.records.specs.declared.Tag.{Tag}
 use Rattle.records.specs.declared.Found.{Found}
-use Rattle.records.specs.Records.{row_of, rows_of, tag_at, lookup_of}
+use Rattle.records.specs.Records.{row_of, rows_of, lookup_of}
+use Rattle.records.proofs.Lists.{past_end, tag_read}
 
--- what is made of a record and its place
-abbrev of_pair : Option (ℕ × Tag) → Option Found
-of_pair None = None
-of_pair (Some x) = Some (record { at = x.0; tag = x.1 })
+module _ (tags : List Tag) where
+  made : (r : Option ℕ) (m : Option Found) {P : ℕ → Found → Type 0} → IfSome r (λ i. i < length tags)
+      → MatchOption r (m ≡ None) (λ i. IsSomeAnd m (P i)) → ((i : ℕ) (f : Found) → P i f → f ≡ record { at = i; tag = get_or tags i past_end })
+      → m ≡ lookup_of tags r
+  made None m h e f = e
+  made (Some i) None h e f = absurd e
+  made (Some i) (Some x) h e f = ap Some (f i x e ∙ ap (λ (t : Tag). record { at = i; tag = t }) (tag_read tags i h))
 
-module _ (p : Row → Bool) where
-  abbrev Test : ℕ × Tag → Bool
-  Test x = p (row_of x.1)
+  module _ (p : Row → Bool) where
+    -- from place i on
+    over_rows : (i : ℕ) (rest : List Tag) → scan (λ t. p (row_of t)) Some None i rest ≡ scan p Some None i (rows_of rest)
+    unfolding scan
+    over_rows i [] = refl
+    over_rows i (t ∷ rest) = rw (over_rows (suc i) rest) refl
 
-  -- from place i on, where `rest` stands in all records
-  searched : (tags rest : List Tag) (i : ℕ) → ((k : ℕ) → tag_at tags (i + k) ≡ tag_at rest k)
-      → of_pair (find Test (enumerate_from i rest)) ≡ lookup_of tags (scan p Some None i (rows_of rest))
-  unfolding scan
-  searched tags [] i at = refl
-  searched tags (t ∷ rest) i at =
-      by_test (p (row_of t)) (λ e. rw (e, ← add-zero i) (rw (at 0) refl))
-      (λ e. rw (e, add-one) (searched tags rest (suc i) (λ k. let n : suc i + k ≡ i + suc k = omega arith in rw n (at (suc k)))))
-
-  abbrev Shown : ℕ × Bor Tag → ℕ × Tag
-  Shown x = (x.0, x.1.now)
-
-  made : (r : Option (ℕ × Bor Tag)) (m : Option Found) {P : ℕ × Bor Tag → Found → Type 0} → MatchOption r (m ≡ None) (λ x. IsSomeAnd m (P x))
-      → ((x : ℕ × Bor Tag) (f : Found) → P x f → f ≡ record { at = x.0; tag = x.1.now }) → m ≡ of_pair (option_map Shown r)
-  made None m e f = e
-  made (Some x) None e f = absurd e
-  made (Some x) (Some y) e f = ap Some (f x y e)
-
-  pub located : (tags : List Tag) (r : Option (ℕ × Bor Tag)) (m : Option Found) {P : ℕ × Bor Tag → Found → Type 0}
-      → MatchOption r (m ≡ None) (λ x. IsSomeAnd m (P x)) → ((x : ℕ × Bor Tag) (f : Found) → P x f → f ≡ record { at = x.0; tag = x.1.now })
-      → option_map Shown r ≡ find Test (enumerate_from 0 tags) → m ≡ lookup_of tags (scan p Some None 0 (rows_of tags))
-  located tags r m e f q = made r m e f ∙ ap of_pair q ∙ searched tags tags 0 (λ k. rw zero-add refl)
+    pub located : (r : Option ℕ) (m : Option Found) {P : ℕ → Found → Type 0} → IfSome r (λ i. i < length tags)
+        → MatchOption r (m ≡ None) (λ i. IsSomeAnd m (P i)) → ((i : ℕ) (f : Found) → P i f → f ≡ record { at = i; tag = get_or tags i past_end })
+        → r ≡ scan (λ t. p (row_of t)) Some None 0 tags → m ≡ lookup_of tags (scan p Some None 0 (rows_of tags))
+    located r m h e f q = made r m h e f ∙ ap (lookup_of tags) (q ∙ over_rows 0 tags)

@@ -27,10 +27,6 @@ module _ (tags : List Tag) (rows : List Row) (n : ℕ) (packed : List Row) (pack
     abbrev given : List Row → Tables
     given ts = tables_from structures members programs ts others names tag_names templates
 
-    -- so are the tables
-    pub packed_tables : given (take n packed) ≡ given (rows_of tags)
-    packed_tables = ap given packed_all
-
     module _ (f : Flags) (memory request : List ℕ) (limit : ℕ) (buffer : List ℕ) where
       abbrev meant : List Row → Entered
       meant ts = entry (given ts) (flags_of f) memory request limit buffer

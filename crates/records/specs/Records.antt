@@ -1,5 +1,6 @@
 -- A tag's record as a row of the tag table, and the rows that a list of records means.
-use Rattle.std.specs.Prelude.{◌≡◌, List, [], ◌∷◌, map, ℕ, min, length, get_or, take, drop}
+use Rattle.std.specs.Borrow.{Bor}
+use Rattle.std.specs.Prelude.{◌≡◌, Bool, List, [], ◌∷◌, map, ℕ, min, length, get_or, take, drop}
 use Rattle.std.specs.Prelude.{Option, None, Some}
 use Rattle.definition.specs.Tables.{Row, field, tag_scope, tag_id, tag_type, tag_elements, tag_access, is_alias, tag_offset}
 use Rattle.records.specs.declared.Tag.{Tag}
@@ -37,6 +38,10 @@ row_at rows i = get_or rows i (row_of no_tag)
 -- the tag table that the records mean
 abbrev pub rows_of : List Tag → List Row
 rows_of ts = map row_of ts
+
+-- what a closure says of a record is what the test p says of its row
+abbrev pub TestsRows : (post : Bor Tag → Bool → Type 0) → (p : Row → Bool) → Type 0
+TestsRows post p = (tag : Bor Tag) (r : Bool) → post tag r → r ≡ p (row_of tag.now)
 
 -- the record whose row a search found, with its place
 abbrev pub lookup_of : List Tag → Option ℕ → Option Found

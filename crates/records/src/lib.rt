@@ -2,15 +2,18 @@
 // What takes `&[Tag]` or `&mut [Tag]` promises something of the records and of the rows that they mean.
 #![tactic(auto)]
 
-ghost use Rattle.std.specs.Prelude.{◌≡◌, ◌<◌, length, set};
+ghost use Rattle.std.specs.Prelude.{◌≡◌, Bool, ◌<◌, length, set, None, Some};
+ghost use Rattle.laws.specs.Scan.{scan};
+ghost use Rattle.definition.specs.Tables.{Row};
 ghost use Rattle.definition.specs.Lookup.{tag_in, id_in};
-ghost use Rattle.records.specs.Records.{row_of, tag_of, tag_at, row_at, rows_of, lookup_of, Packs};
+ghost use Rattle.records.specs.Records.{row_of, tag_of, tag_at, row_at, rows_of, TestsRows, lookup_of, Packs};
 
 use model::columns::{
-    TAG_ACCESS, TAG_ALIAS, TAG_ELEMENTS, TAG_ID, TAG_LENGTH_1, TAG_LENGTH_2, TAG_LENGTH_3,
-    TAG_NAME_LENGTH, TAG_NAME_START, TAG_OFFSET, TAG_SCOPE, TAG_TYPE,
+    TAG_ACCESS, TAG_ALIAS, TAG_ELEMENTS, TAG_ID, TAG_NAME_LENGTH, TAG_NAME_START, TAG_OFFSET,
+    TAG_SCOPE, TAG_TYPE,
 };
 use model::lookup;
+use model::shapes::lengths_of;
 
 /// A tag: its scope (0 is the controller, k + 1 program k), its name's place in the store of tag names, its instance ID,
 /// its type word, its array lengths (nonzero first), its elements, its access, its alias mark and its place in tag memory.
@@ -69,7 +72,7 @@ impl From<[u32; 12]> for Tag {
             name_length: row[TAG_NAME_LENGTH],
             id: row[TAG_ID],
             ty: row[TAG_TYPE],
-            lengths: [row[TAG_LENGTH_1], row[TAG_LENGTH_2], row[TAG_LENGTH_3]],
+            lengths: lengths_of(&row),
             elements: row[TAG_ELEMENTS],
             access: row[TAG_ACCESS],
             alias: row[TAG_ALIAS],
@@ -118,29 +121,42 @@ pub fn pack(tags: &[Tag], rows: &mut [[u32; 12]]) -> usize
     ensures { Packs tags.now rows.old result rows.new }
 {
     let n = tags.len().min(rows.len());
-    // an index: over `rows.iter_mut().zip(tags)` an invariant can say nothing of the rows written so far
-    for i in 0..n {
-        rows[i] = tags[i].into();
+    for (i, row) in rows[..n].iter_mut().enumerate() {
+        *row = tags[i].into();
     }
     n
 }
 
+/// The first record that passes a test of its row, and its place.
+fn first_with<F: Fn(&Tag) -> bool>(tags: &[Tag], passes: F) -> Option<Found>
+    requires { F.IsAlwaysCallable passes }
+    ensures { (p : Row → Bool) → TestsRows (F.post passes) p
+        → result ≡ lookup_of tags.now (scan p Some None 0 (rows_of tags.now)) }
+{
+    // a closure: nothing says of the calls that `position(passes)` makes that `passes` stays as it was
+    tags.iter()
+        .position(|tag| passes(tag))
+        .map(|at| Found { at, tag: tags[at] })
+}
+
 /// The first tag of that scope and name: the record whose row the flat search finds among the rows that the records mean.
+#[tactic(auto, unfolding(definition::specs::Lookup::tag_in))]
 pub fn tag_named(tags: &[Tag], tag_names: &[u8], scope: u32, name: &[u8]) -> Option<Found>
     ensures { result ≡ lookup_of tags.now (tag_in (rows_of tags.now) tag_names.now scope name.now) }
 {
-    tags.iter()
-        .enumerate()
-        .find(|(_, tag)| lookup::tag_is(&(**tag).into(), tag_names, scope, name))
-        .map(|(at, tag)| Found { at, tag: *tag })
+    first_with(
+        tags,
+        |tag| lookup::tag_is(&(*tag).into(), tag_names, scope, name),
+    )
 }
 
 /// The first tag of that scope and instance ID, likewise.
+#[tactic(auto, unfolding(definition::specs::Lookup::id_in))]
 pub fn tag_with_id(tags: &[Tag], scope: u32, id: u32) -> Option<Found>
     ensures { result ≡ lookup_of tags.now (id_in (rows_of tags.now) scope id) }
 {
-    tags.iter()
-        .enumerate()
-        .find(|(_, tag)| lookup::id_is(&<[u32; 12]>::from(**tag), scope, id))
-        .map(|(at, tag)| Found { at, tag: *tag })
+    first_with(
+        tags,
+        |tag| lookup::id_is(&<[u32; 12]>::from(*tag), scope, id),
+    )
 }

@@ -164,9 +164,6 @@ module _ (from : List Defined) (run : Run) (here : Running from run) where
       three = refl;
     }
 
-    pub run_less : length (left next) < length (left run.rest)
-    run_less = rw more (omega arith)
-
   pub run_stop : FirstElement (left run.rest) None → Ran from run
   unfolding last_three
   run_stop e = record {

@@ -1,22 +1,19 @@
 -- The tag that a path starts with, by the segments that the decoder found.
 -- Assumes nothing.
-use mathlib.Core.Path.{◌≡◌, refl, ap, ◌∙◌}
-use mathlib.Core.Logic.{◌≢◌}
+use mathlib.Core.Path.{◌≡◌, refl}
 use mathlib.Core.Bool.{true, false}
 use mathlib.Core.List.{List, [], ◌∷◌}
 use Rattle.std.specs.Prelude.{Option, None, Some, Err, Result}
-use Prim.Native.Nat.{ℕ, ◌+◌, ◌<◌, ◌≤◌}
-use native.Mathlib.Numerals.{add-one}
+use Prim.Native.Nat.{ℕ, ◌<◌, ◌≤◌}
 use native.Mathlib.Omega.{arith}
-use lib.Dec.{ltb}
 use lib.ListN.{length, drop}
-use borrow.Author.Tests.{ltb-true, eq-eqb, ne_eqb}
+use borrow.Author.Tests.{eq-eqb}
 use Rattle.laws.specs.Pick.{is_empty}
-use Rattle.laws.proofs.Tests.{both_true, both-none}
+use Rattle.laws.proofs.Tests.{both-none}
 use Rattle.std.proofs.Common.{Bor}
 use Rattle.definition.specs.Names.{is_program_name}
 use Rattle.definition.specs.Segment.{Segment as Defined, class, instance, symbol}
-use Rattle.definition.specs.Request.{no_object, object_of, symbol_instance}
+use Rattle.definition.specs.Request.{object_of, symbol_instance}
 use Rattle.definition.specs.Tables.{Tables, Flags, takes_instances}
 use Rattle.definition.specs.Lookup.{program_named, tag_named, tag_with_id}
 use Rattle.definition.specs.Resolve.{Resolved, by_instance, in_scope, in_program, resolve}
@@ -46,16 +43,7 @@ module _ (t : Tables) (f : Flags) where
     abbrev Numbered : Result Start Status → Type 0
     Numbered = Starts (by_instance t f scope (symbol_instance (object_of l)) (drop 2 l))
 
-    pub numbered-none : object_of l ≡ no_object → Numbered (Err PathError)
-    numbered-none h = record { is = rw h; inside = tt }
-
     module _ (o : Object) (next : Rest) (all : l ≡ class o.class ∷ (instance o.instance ∷ left next)) where
-      pub numbered-class : o.class ≢ 0x6B → Numbered (Err PathError)
-      numbered-class h = record { is = rw (all, ne_eqb o.class 0x6B h); inside = tt }
-
-      pub numbered-off : o.class ≡ 0x6B → takes_instances f ≡ false → Numbered (Err PathUnknown)
-      numbered-off h n = record { is = rw (all, eq-eqb o.class 0x6B h, n); inside = tt }
-
       numbered_by : o.class ≡ 0x6B → takes_instances f ≡ true → (i : Option ℕ) → tag_with_id t scope o.instance ≡ i
           → Numbered (found_at i next PathUnknown)
       numbered_by h y None e = record { is = rw (all, eq-eqb o.class 0x6B h, y, e); inside = tt }
@@ -87,18 +75,6 @@ module _ (t : Tables) (f : Flags) where
     unfolding in_scope
     scope-other s next e n r b = record { is = rw (e, no_name s n) (rw e at b.is); inside = b.inside }
 
-  -- ---- in a program
-
-  module _ (name : List ℕ) (l : List Defined) where
-    abbrev Programmed : Result Start Status → Type 0
-    Programmed = Starts (in_program t f (program_named t name) l)
-
-    pub program_found : (k : ℕ) (r : Result Start Status) → program_named t name ≡ Some k → Starts (in_scope t f (k + 1) l) r → Programmed r
-    program_found k r e b = rw e (record { is = b.is ∙ ap (λ (n : ℕ). in_scope t f n l) (add-one k); inside = b.inside })
-
-    pub program_none : program_named t name ≡ None → Programmed (Err PathError)
-    program_none e = rw e (record { is = refl; inside = tt })
-
 -- ---- the prefix
 
 module _ (l : List Defined) where
@@ -124,7 +100,3 @@ module _ (l : List Defined) where
         → in_program t f (program_named t (drop 8 name)) next ≡ resolve t f l
     unfolding resolve
     prefix_program on h t f = rw (first, on, h)
-
-pub program_long : (name : List ℕ) → is_program_name name ≡ true → 8 < length name
-unfolding is_program_name
-program_long name on = ltb-true 8 (length name) (both_true (ltb 8 (length name)) _ on).0

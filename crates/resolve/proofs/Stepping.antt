@@ -1,8 +1,8 @@
 -- A place that stands in its tag, and the moves from it.
 -- Assumes nothing.
-use mathlib.Core.Path.{◌≡◌, refl, ◌∙◌}
-use mathlib.Core.Bool.{true, false}
-use mathlib.Core.List.{List, [], ◌∷◌}
+use mathlib.Core.Path.{◌≡◌}
+use mathlib.Core.Bool.{true}
+use mathlib.Core.List.{List, ◌∷◌}
 use Rattle.std.specs.Prelude.{Result, Ok, Err}
 use Rattle.std.proofs.Common.{Bor}
 use Prim.Native.Nat.{ℕ, ◌<◌, ◌≤◌}
@@ -11,7 +11,6 @@ use lib.Dec.{leb}
 use lib.ListN.{length}
 use borrow.Author.Tests.{leb-true}
 use Rattle.laws.specs.Pick.{is_empty}
-use Rattle.laws.proofs.Chain.{clash}
 use Rattle.laws.proofs.Tests.{among, both-none}
 use Rattle.definition.specs.Segment.{Segment as Defined, element, symbol}
 use Rattle.definition.specs.Tables.{Tables, Flags}
@@ -92,9 +91,6 @@ module _ (t : Tables) (f : Flags) (l : List Defined) (g : Place) where
   unfolding walk moves
   step-other s next e n k = rw (e, no_element s n, no_name s k)
 
-  pub step-empty : is_empty l ≡ false → l ≡ [] → Stepping (Err PathError)
-  step-empty h e = clash (cc (rw e at h))
-
   module _ (name : List ℕ) (next : Rest) (here : l ≡ symbol name ∷ left next) where
     name_first : moves l ≡ member name ∷ moves (left next)
     unfolding moves
@@ -137,20 +133,7 @@ module _ (t : Tables) (f : Flags) (from : List Defined) (first : Place) where
   abbrev Followed : List Defined → Place → Type 0
   Followed = Following t f from first
 
-  pub follow_start : Standing t (place_of first) → Followed from first
-  follow_start w = record { standing = w; same = refl }
-
   module _ (l : List Defined) (g : Place) (inv : Followed l g) where
     pub follow_end : is_empty l ≡ true → found (place_of g) ≡ walked t f from (place_of first)
     unfolding walk moves
     follow_end h = rw (no_items l h) at inv.same
-
-    pub follow_turned : (s : Status) → Steps t f l (place_of g) (Err s) → turned (status_of s) ≡ walked t f from (place_of first)
-    follow_turned s e = e ∙ inv.same
-
-    module _ (p : Place) (next : List Defined) (on : Onward t f l (place_of g) (place_of p) next) where
-      pub follow_more : Followed next p
-      follow_more = record { standing = on.standing; same = on.same ∙ inv.same }
-
-      pub follow_less : length next < length l
-      follow_less = on.shorter

@@ -1,10 +1,11 @@
 -- A place and what a move comes to, in the definition's terms.
-use Rattle.std.specs.Prelude.{◌≡◌, List, [], ◌∷◌, ℕ, get_or, Result, Ok, Err}
-use Rattle.definition.specs.Tables.{Row, nonzero, no_bit, tag_offset, tag_type, tag_elements, tag_access}
+use Rattle.std.specs.Prelude.{◌≡◌, List, ℕ, get_or, Result, Ok, Err}
+use Rattle.definition.specs.Tables.{Row, no_bit, tag_offset, tag_type, tag_elements, tag_access}
 use Rattle.definition.specs.Types.{size_in}
 use Rattle.definition.specs.Resolve.{Target as Defined, Resolved, found, turned, index_lengths}
 use Rattle.cip.specs.Statuses.{status_of}
 use Rattle.cip.specs.declared.Status.{Status}
+use Rattle.model.specs.Shapes.{nonzero3}
 use Rattle.model.specs.Tables.{target_of}
 use Rattle.model.specs.declared.Target.{Target}
 use Rattle.resolve.specs.declared.places.Place.{Place}
@@ -21,7 +22,7 @@ third_of ns = get_or ns 2 0
 
 -- those of the array that is still open
 abbrev pub open_lengths : List ℕ → List ℕ
-open_lengths ns = nonzero (first_of ns ∷ second_of ns ∷ third_of ns ∷ [])
+open_lengths ns = nonzero3 ns
 
 abbrev pub place_of : Place → Defined
 place_of g = record {

@@ -2,7 +2,7 @@
 #![tactic(auto)]
 
 use cip::Status;
-use model::columns::STRUCTURE_AOI;
+use model::columns::{NO_ACCESS, READ_ONLY, STRUCTURE_AOI};
 use model::{Controller, Target, types};
 use places::Place;
 use rest::Rest;
@@ -14,7 +14,7 @@ mod places;
 mod rest;
 mod start;
 
-ghost use Rattle.std.specs.Prelude.{◌≡◌, true, [], ◌≤◌};
+ghost use Rattle.std.specs.Prelude.{◌≡◌, true, []};
 ghost use Rattle.laws.specs.Pick.{is_some};
 ghost use Rattle.definition.specs.Access.{is_denied, refuses_locals};
 ghost use Rattle.definition.specs.Segment.{segments};
@@ -43,12 +43,12 @@ fn refuses_locals(c: &Controller, g: Target) -> bool
         && model::lookup::has_local(c.tables.members_of(g.ty))
 }
 
-/// Access 3, a write at access 2, or such a type.
+/// No access, a write where only reads are allowed, or such a type.
 #[tactic(auto, using(laws::proofs::Chain::tests), unfolding(definition::specs::Access::is_denied))]
 fn is_denied(c: &Controller, writes: bool, g: Target) -> bool
     ensures { result ≡ is_denied (tables_of c.now.tables) (flags_of c.now.flags) writes (target_of g []) }
 {
-    g.access == 3 || (writes && g.access == 2) || refuses_locals(c, g)
+    g.access == NO_ACCESS || (writes && g.access == READ_ONLY) || refuses_locals(c, g)
 }
 
 /// A tag service's target, or the status that turns the service away before its data is looked at.

@@ -1,10 +1,10 @@
 // A place on the way along a path: a target with the lengths of the array that is still open.
-ghost use Rattle.std.specs.Prelude.{◌≡◌, List, ℕ, ◌+◌, ◌*◌, ◌≤◌, ◌<◌, length};
+ghost use Rattle.std.specs.Prelude.{◌≡◌, List, ℕ, ◌+◌, ◌*◌, ◌≤◌, ◌<◌};
 ghost use Rattle.definition.specs.Tables.{tag_elements};
 ghost use Rattle.definition.specs.Types.{size_in};
 ghost use Rattle.definition.specs.Resolve.{elements_from, index, member_target};
 ghost use Rattle.model.specs.Tables.{tables_of};
-ghost use Rattle.resolve.specs.Places.{place_of, moved_of, whole_row, open_lengths, Aims};
+ghost use Rattle.resolve.specs.Places.{place_of, moved_of, whole_row, Aims};
 ghost use Rattle.resolve.specs.Runs.{Bounded, Holds};
 
 use crate::elements::Run;
@@ -13,7 +13,7 @@ use model::columns::{
     MEMBER_ACCESS, MEMBER_BIT, MEMBER_LENGTH, MEMBER_OFFSET, MEMBER_TYPE, NO_BIT, TAG_ACCESS,
     TAG_ELEMENTS, TAG_OFFSET, TAG_TYPE,
 };
-use model::{Tables, Target};
+use model::{Tables, Target, shapes};
 
 /// The lengths stand first, zeros behind them; all are 0 for no array.
 #[derive(Clone, Copy)]
@@ -33,7 +33,7 @@ impl Place {
         requires { 0 < tag_elements row.now }
         ensures { place_of result ≡ whole_row tag row.now }
     {
-        let [_, lengths] = model::shapes::shapes(row);
+        let [_, lengths] = shapes::shapes(row);
         Place {
             tag,
             start: row[TAG_OFFSET] as usize,
@@ -60,18 +60,6 @@ impl Place {
         }
     }
 
-    /// How many lengths are open.
-    fn dims(self) -> usize
-        ensures { result ≡ length (open_lengths self.lengths) }
-    {
-        match self.lengths {
-            [0, _, _] => 0,
-            [_, 0, _] => 1,
-            [_, _, 0] => 2,
-            _ => 3,
-        }
-    }
-
     /// The elements from a position on.
     #[tactic(auto, unfolding(definition::specs::Resolve::elements_from))]
     fn elements_from(self, t: &Tables, position: usize) -> Place
@@ -92,7 +80,7 @@ impl Place {
         requires { Bounded t.now.structures.now self }
         ensures { (es : List ℕ) → Holds es run.entry → moved_of result ≡ index (tables_of t.now) es (place_of self) }
     {
-        let dims = self.dims();
+        let dims = shapes::count_lengths(self.lengths);
         if dims == 0 || run.count != dims {
             return Err(Status::PathError);
         }
@@ -101,6 +89,9 @@ impl Place {
         }
         Ok(self.elements_from(t, run.position(self.lengths)))
     }
+
+    // That a place starts at 65,536 or before is a clause here and in `members`, and no ghost field: `..self` makes places, which a struct with one does
+    // not allow.
 
     /// A member; a bit member is one BOOL.
     #[tactic(auto, using(laws::proofs::Chain::tests), unfolding(definition::specs::Resolve::member_target))]

@@ -10,6 +10,7 @@ ghost use Rattle.resolve.specs.Starts.{found_at, Begins, Prefixed};
 
 use crate::rest::Rest;
 use cip::Status;
+use model::columns::CONTROLLER_SCOPE;
 use model::{Controller, Flags, lookup};
 use path::Segment;
 
@@ -50,7 +51,7 @@ fn by_instance<'a>(c: &Controller, rest: Rest<'a>, scope: u32) -> Result<Start<'
     found_at(tag, next, Status::PathUnknown)
 }
 
-/// The tag of a scope, 0 for the controller's.
+/// The tag of a scope.
 fn in_scope<'a>(c: &Controller, rest: Rest<'a>, scope: u32) -> Result<Start<'a>, Status>
     ensures { let t = tables_of c.now.tables in let f = flags_of c.now.flags in
         Begins t f (in_scope t f scope (left rest.entry)) result }
@@ -72,7 +73,7 @@ fn in_program<'a>(c: &Controller, rest: Rest<'a>, name: &[u8]) -> Result<Start<'
         Begins t f (in_program t f (program_named t name.now) (left rest.entry)) result }
 {
     let k = c.tables.find_program(name).ok_or(Status::PathError)?;
-    in_scope(c, rest, (k + 1) as u32)
+    in_scope(c, rest, lookup::program_scope(k))
 }
 
 /// A program's name without its prefix, and what follows it, if anything does.
@@ -81,9 +82,7 @@ fn program_first<'a>(path: Rest<'a>) -> Option<(&'a [u8], Rest<'a>)>
 {
     let (first, next) = path.segment()?;
     match first {
-        Segment::Symbol(name) if !next.is_empty() && path::is_program_name(name) => {
-            Some((&name[8..], next))
-        }
+        Segment::Symbol(name) if !next.is_empty() => Some((path::after_program(name)?, next)),
         _ => None,
     }
 }
@@ -96,6 +95,6 @@ pub fn tag_of<'a>(c: &Controller, path: Rest<'a>) -> Result<Start<'a>, Status>
 {
     match program_first(path) {
         Some((name, next)) => in_program(c, next, name),
-        None => in_scope(c, path, 0),
+        None => in_scope(c, path, CONTROLLER_SCOPE),
     }
 }

@@ -1,5 +1,5 @@
 // The tests of one row: its encoding, its name, its fields.
-ghost use Rattle.std.specs.Prelude.{◌≡◌, ◌+◌, ◌*◌, ltb, leb, length, get_or};
+ghost use Rattle.std.specs.Prelude.{◌≡◌, ◌+◌, ◌*◌, ltb, leb, get_or};
 ghost use Rattle.laws.specs.Pick.{both};
 ghost use Rattle.laws.specs.Tests.{every};
 ghost use Rattle.definition.specs.Names.{starts_with};
@@ -9,17 +9,17 @@ ghost use Rattle.definition.specs.Breach.{name_length, name_bytes, has_elements,
 ghost use Rattle.rows.specs.Judged.{name_judged, structure_named, structure_judged, member_judged, program_judged, tag_judged, other_named, other_judged, zeros_last3, product3};
 
 use cip::codes::DWORD;
-use model::Tables;
 use model::columns::{
     MEMBER_ACCESS, MEMBER_BIT, MEMBER_HIDDEN, MEMBER_LENGTH, MEMBER_LOCAL, MEMBER_NAME_LENGTH,
-    MEMBER_NAME_START, MEMBER_OFFSET, MEMBER_TYPE, NO_BIT, OTHER_ID, OTHER_NAME_LENGTH,
+    MEMBER_NAME_START, MEMBER_OFFSET, MEMBER_TYPE, NO_ACCESS, NO_BIT, OTHER_ID, OTHER_NAME_LENGTH,
     OTHER_NAME_START, OTHER_SCOPE, OTHER_TYPE, PROGRAM_NAME_LENGTH, PROGRAM_NAME_START,
     STRUCTURE_AOI, STRUCTURE_FIRST_MEMBER, STRUCTURE_HANDLE, STRUCTURE_MEMBERS,
     STRUCTURE_NAME_LENGTH, STRUCTURE_NAME_START, STRUCTURE_SIZE, STRUCTURE_TEMPLATE, TAG_ACCESS,
-    TAG_ALIAS, TAG_ELEMENTS, TAG_ID, TAG_LENGTH_1, TAG_LENGTH_2, TAG_LENGTH_3, TAG_NAME_LENGTH,
-    TAG_NAME_START, TAG_OFFSET, TAG_SCOPE, TAG_TYPE, TEMPLATE_LENGTH, TEMPLATE_START,
+    TAG_ALIAS, TAG_ELEMENTS, TAG_ID, TAG_LENGTH_1, TAG_LENGTH_2, TAG_NAME_LENGTH, TAG_NAME_START,
+    TAG_OFFSET, TAG_SCOPE, TAG_TYPE, TEMPLATE_LENGTH, TEMPLATE_START,
 };
 use model::lookup::part_of;
+use model::shapes::lengths_of;
 use model::types::{self, FIRST_STRUCTURE};
 
 fn is_printable(b: u8) -> bool
@@ -168,54 +168,61 @@ fn structure_named(row: &[u32; 10], names: &[u8]) -> bool
 
 /// T4 of the row of structure i.
 #[tactic(auto, using(laws::proofs::Chain::tests, crate::proofs::Laws::structure_fits_by))]
-fn structure_fits(row: &[u32; 10], t: &Tables, i: usize) -> bool
-    ensures { result ≡ structure_fits t.now.structures.now t.now.members.now
-        (length t.now.templates.now) i row.now }
+fn structure_fits(
+    row: &[u32; 10],
+    structures: &[[u32; 10]],
+    members: &[[u32; 9]],
+    templates: usize,
+    i: usize,
+) -> bool
+    ensures { result ≡ structure_fits structures.now members.now templates i row.now }
 {
     let size = row[STRUCTURE_SIZE];
-    let members = part_of(
-        t.members,
-        row[STRUCTURE_FIRST_MEMBER],
-        row[STRUCTURE_MEMBERS],
-    );
+    let its_members = part_of(members, row[STRUCTURE_FIRST_MEMBER], row[STRUCTURE_MEMBERS]);
     size_fits(size)
-        && within(row[TEMPLATE_START], row[TEMPLATE_LENGTH], t.templates.len())
-        && members_fit(members, t.structures, i, size)
+        && within(row[TEMPLATE_START], row[TEMPLATE_LENGTH], templates)
+        && members_fit(its_members, structures, i, size)
 }
 
 /// The row of structure i.
 #[tactic(auto, using(laws::proofs::Chain::tests), unfolding(crate::specs::Judged::structure_judged))]
-pub fn structure_judged(row: &[u32; 10], t: &Tables, i: usize) -> bool
-    ensures { result ≡ structure_judged t.now.structures.now t.now.members.now t.now.names.now
-        (length t.now.templates.now) i row.now }
+pub fn structure_judged(
+    row: &[u32; 10],
+    structures: &[[u32; 10]],
+    members: &[[u32; 9]],
+    names: &[u8],
+    templates: usize,
+    i: usize,
+) -> bool
+    ensures { result ≡ structure_judged structures.now members.now names.now templates i row.now }
 {
-    structure_named(row, t.names)
+    structure_named(row, names)
         && within(
             row[STRUCTURE_FIRST_MEMBER],
             row[STRUCTURE_MEMBERS],
-            t.members.len(),
+            members.len(),
         )
-        && structure_fits(row, t, i)
+        && structure_fits(row, structures, members, templates, i)
 }
 
 /// A member row by itself.
 #[tactic(auto, using(laws::proofs::Chain::tests), unfolding(crate::specs::Judged::member_judged))]
-pub fn member_judged(row: &[u32; 9], t: &Tables) -> bool
-    ensures { result ≡ member_judged t.now.names.now (length t.now.structures.now) row.now }
+pub fn member_judged(row: &[u32; 9], names: &[u8], structures: usize) -> bool
+    ensures { result ≡ member_judged names.now structures row.now }
 {
-    name_judged(t.names, row[MEMBER_NAME_START], row[MEMBER_NAME_LENGTH])
-        && is_type(t.structures.len(), row[MEMBER_TYPE])
+    name_judged(names, row[MEMBER_NAME_START], row[MEMBER_NAME_LENGTH])
+        && is_type(structures, row[MEMBER_TYPE])
         && row[MEMBER_HIDDEN] <= 1
         && row[MEMBER_LOCAL] <= 1
-        && row[MEMBER_ACCESS] <= 3
+        && row[MEMBER_ACCESS] <= NO_ACCESS
         && row[MEMBER_BIT] <= NO_BIT
 }
 
 #[tactic(auto, using(laws::proofs::Chain::tests), unfolding(crate::specs::Judged::program_judged))]
-pub fn program_judged(row: &[u32; 2], t: &Tables) -> bool
-    ensures { result ≡ program_judged t.now.names.now row.now }
+pub fn program_judged(row: &[u32; 2], names: &[u8]) -> bool
+    ensures { result ≡ program_judged names.now row.now }
 {
-    name_judged(t.names, row[PROGRAM_NAME_START], row[PROGRAM_NAME_LENGTH])
+    name_judged(names, row[PROGRAM_NAME_START], row[PROGRAM_NAME_LENGTH])
 }
 
 /// Nonzero lengths first, and zeros after.
@@ -234,7 +241,7 @@ fn zeros_last(lengths: [u32; 3]) -> bool
 pub fn lengths_first(row: &[u32; 12]) -> bool
     ensures { result ≡ zeros_last (tag_lengths row.now) }
 {
-    zeros_last([row[TAG_LENGTH_1], row[TAG_LENGTH_2], row[TAG_LENGTH_3]])
+    zeros_last(lengths_of(row))
 }
 
 /// The product of the nonzero lengths, which may exceed 64 bits.
@@ -268,8 +275,7 @@ fn is_bool_array(row: &[u32; 12]) -> bool
 pub fn elements_fit(row: &[u32; 12]) -> bool
     ensures { result ≡ has_elements row.now }
 {
-    let lengths = [row[TAG_LENGTH_1], row[TAG_LENGTH_2], row[TAG_LENGTH_3]];
-    u128::from(row[TAG_ELEMENTS]) == product(lengths) || is_bool_array(row)
+    u128::from(row[TAG_ELEMENTS]) == product(lengths_of(row)) || is_bool_array(row)
 }
 
 /// T5 of a tag row.
@@ -300,17 +306,22 @@ pub fn tag_within(row: &[u32; 12], structures: &[[u32; 10]], memory: usize) -> b
 
 /// A tag row by itself.
 #[tactic(auto, using(laws::proofs::Chain::tests), unfolding(crate::specs::Judged::tag_judged))]
-pub fn tag_judged(row: &[u32; 12], t: &Tables, memory: usize) -> bool
-    ensures { result ≡ tag_judged t.now.structures.now t.now.tag_names.now
-        (length t.now.programs.now) memory row.now }
+pub fn tag_judged(
+    row: &[u32; 12],
+    structures: &[[u32; 10]],
+    tag_names: &[u8],
+    programs: usize,
+    memory: usize,
+) -> bool
+    ensures { result ≡ tag_judged structures.now tag_names.now programs memory row.now }
 {
-    row[TAG_SCOPE] as usize <= t.programs.len()
-        && name_judged(t.tag_names, row[TAG_NAME_START], row[TAG_NAME_LENGTH])
+    row[TAG_SCOPE] as usize <= programs
+        && name_judged(tag_names, row[TAG_NAME_START], row[TAG_NAME_LENGTH])
         && row[TAG_ALIAS] <= 1
-        && row[TAG_ACCESS] <= 3
+        && row[TAG_ACCESS] <= NO_ACCESS
         && row[TAG_ID] != 0
-        && tag_fits(row, t.structures.len())
-        && tag_within(row, t.structures, memory)
+        && tag_fits(row, structures.len())
+        && tag_within(row, structures, memory)
 }
 
 /// Another symbol's name stands in its store and is one.
@@ -324,11 +335,11 @@ fn other_named(row: &[u32; 5], names: &[u8]) -> bool
 
 /// Another symbol's row by itself.
 #[tactic(auto, using(laws::proofs::Chain::tests), unfolding(crate::specs::Judged::other_judged))]
-pub fn other_judged(row: &[u32; 5], t: &Tables) -> bool
-    ensures { result ≡ other_judged t.now.names.now (length t.now.programs.now) row.now }
+pub fn other_judged(row: &[u32; 5], names: &[u8], programs: usize) -> bool
+    ensures { result ≡ other_judged names.now programs row.now }
 {
-    row[OTHER_SCOPE] as usize <= t.programs.len()
-        && other_named(row, t.names)
+    row[OTHER_SCOPE] as usize <= programs
+        && other_named(row, names)
         && fits16(row[OTHER_TYPE])
         && row[OTHER_ID] != 0
 }

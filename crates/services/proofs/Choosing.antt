@@ -11,7 +11,7 @@ use lib.ListN.{length}
 use borrow.Author.Tests.{eq-eqb, ne_eqb}
 use Rattle.laws.specs.Pick.{pick, both}
 use Rattle.laws.proofs.Chain.{pick-map}
-use Rattle.definition.specs.Reply.{Answer, Status, answered, fail, not_supported, path_unknown}
+use Rattle.definition.specs.Reply.{Answer, answered}
 use Rattle.definition.specs.Segment.{Segment, class, instance, segments}
 use Rattle.definition.specs.Request.{object_of, is_tag_path}
 use Rattle.definition.specs.Tables.{Tables, Flags}
@@ -24,8 +24,10 @@ use Rattle.path.specs.Paths.{tag_path_from, ObjectAt}
 use Rattle.path.specs.declared.Object.{Object}
 use Rattle.services.specs.declared.Own.{Own}
 use Rattle.services.specs.declared.Own.TheVariants as own
-use Rattle.model.specs.Tables.{WhereValid}
+use Rattle.model.specs.Tables.{Whatever, WhereValid}
 use Rattle.listing.specs.Pages.{list_lent}
+use Rattle.listing.specs.Objects.{attributes_lent}
+use Rattle.listing.specs.Templates.{template_lent}
 use Rattle.definition.specs.Symbols.{list_symbols}
 use Rattle.services.specs.Answers.{Answers, OnPath}
 use Rattle.services.specs.Services.{own_of, object_is}
@@ -91,17 +93,17 @@ module _ (tables : Tables) (f : Flags) (memory : List ℕ) (service : ℕ) (path
     unfolding plain
     plain_own after h = record { is = λ l s. rw (object_is_lem path o l at s, own_is o l, ← chosen) (h l s) }
 
-    pub plain-symbols : (i : ℕ) → w ≡ Some (own.SymbolList i) → Laid limit (capped service limit (symbol_attributes tables service i body)) old r new
-        → Plain memory
-    plain-symbols i e h = plain_own memory (λ l s. rw e (laid_answers limit _ old r new memory h))
+    pub plain-symbols : (i : ℕ) → w ≡ Some (own.SymbolList i)
+        → Whatever (attributes_lent tables) (λ t. Laid limit (capped service limit (symbol_attributes t service i body)) old r new) → Plain memory
+    plain-symbols i e h = plain_own memory (λ l s. rw e (laid_answers limit _ old r new memory (h tables)))
 
     pub plain-structures : (i : ℕ) → w ≡ Some (own.StructureList i)
         → Laid limit (capped service limit (structure_attributes tables.structures service i body)) old r new → Plain memory
     plain-structures i e h = plain_own memory (λ l s. rw e (laid_answers limit _ old r new memory h))
 
     pub plain_template : (i : ℕ) → w ≡ Some (own.Template i)
-        → Laid limit (read_template tables service (template_in tables.structures i) body limit) old r new → Plain memory
-    plain_template i e h = plain_own memory (λ l s. rw e (laid_answers limit _ old r new memory h))
+        → Whatever (template_lent tables) (λ t. Laid limit (read_template t service (template_in t.structures i) body limit) old r new) → Plain memory
+    plain_template i e h = plain_own memory (λ l s. rw e (laid_answers limit _ old r new memory (h tables)))
 
     pub plain_by : w ≡ None → (after : List ℕ) → By after → Plain after
     plain_by e after h = plain_own after (λ l s. rw e (h.is l s))

@@ -76,7 +76,7 @@ fn by_service(
         buf.old result buf.new memory.new }
 {
     if q.service == SYMBOL_PAGE {
-        return listing::requests::list_symbols(&c.tables, *q, limit, buf);
+        return listing::requests::list_symbols(&c.tables, q, limit, buf);
     }
     if is_tag_request(q) {
         return targets::tag_service(c, memory, q, limit, buf);

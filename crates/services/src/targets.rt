@@ -16,6 +16,7 @@ use cip::codes::{READ, READ_FRAGMENTED, WRITE, WRITE_FRAGMENTED, WRITE_MASKED};
 use model::{Controller, Tables, Target};
 use path::Request;
 
+// A service stays its number, here and below: the reply gives the number back, and the definition speaks of numbers.
 fn is_read(service: u8) -> bool
     ensures { result ≡ is_read service }
 {

@@ -4,24 +4,14 @@
 
 mod words;
 
-ghost use Rattle.std.specs.Prelude.{◌+◌, ◌<◌};
-
 use model::columns::{
     OTHER_ID, OTHER_NAME_START, OTHER_SCOPE, OTHER_TYPE, PROGRAM_NAME_START, STRUCTURE_NAME_START,
-    TAG_ACCESS, TAG_ID, TAG_LENGTH_1, TAG_LENGTH_2, TAG_LENGTH_3, TAG_NAME_START, TAG_OFFSET,
-    TAG_SCOPE, TAG_TYPE,
+    TAG_ACCESS, TAG_ID, TAG_NAME_START, TAG_OFFSET, TAG_SCOPE, TAG_TYPE,
 };
-use model::lookup::part_of;
+use model::shapes::lengths_of;
 use model::{Tables, types};
 use std::{fmt, io};
-use wording::name::Name;
-
-/// A row's name, as far as it stands in its store: two words of the row say where it starts and how long it is.
-fn name_of<'a, const N: usize>(row: &[u32; N], start: usize, store: &'a [u8]) -> Name<'a>
-    requires { start + 1 < N }
-{
-    Name(part_of(store, row[start], row[start + 1]))
-}
+use wording::name::name_of;
 
 /// `controller`, or `Program:` and the program's name.
 #[derive(Clone, Copy)]
@@ -86,6 +76,8 @@ impl<'a> fmt::Display for Type<'a> {
     }
 }
 
+// In the next two functions `t` is lent again by `&*t`: the borrow checker lays no parameter in a value that lives shorter.
+
 /// tag, scope, name, type, lengths, access, ID, offset.
 fn tag(to: &impl Print, row: &[u32; 12], t: &Tables) -> io::Result<()> {
     let scope = Scope {
@@ -97,7 +89,7 @@ fn tag(to: &impl Print, row: &[u32; 12], t: &Tables) -> io::Result<()> {
         word: row[TAG_TYPE],
         tables: &*t,
     };
-    let lengths = Lengths([row[TAG_LENGTH_1], row[TAG_LENGTH_2], row[TAG_LENGTH_3]]);
+    let lengths = Lengths(lengths_of(row));
     let access = words::access(row[TAG_ACCESS]);
     let (id, offset) = (row[TAG_ID], row[TAG_OFFSET]);
     println!(to; "tag\t{scope}\t{name}\t{ty}\t{lengths}\t{access}\t{id}\t{offset}")

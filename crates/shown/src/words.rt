@@ -1,4 +1,5 @@
 // The names of atomic types, and of an access.
+use model::columns::{NO_ACCESS, READ_ONLY};
 
 /// An atomic type's name; none of a code that has none.
 pub fn atomic(code: u32) -> Option<&'static str> {
@@ -27,8 +28,8 @@ pub fn access(n: u32) -> &'static str {
     match n {
         0 => "read/write",
         1 => "read/write (1)",
-        2 => "read only",
-        3 => "none",
+        READ_ONLY => "read only",
+        NO_ACCESS => "none",
         _ => "?",
     }
 }

@@ -1,7 +1,7 @@
 -- The head of a table image: its counts and the bytes of the whole image.
-use Rattle.std.specs.Prelude.{◌≡◌, ℕ, ◌+◌, ◌*◌, ◌≤◌, List}
+use Rattle.std.specs.Prelude.{◌≡◌, ℕ, ◌+◌, ◌*◌, List}
 use Rattle.definition.specs.Bytes.{u32_at}
-use Rattle.simulator.specs.declared.image.Head.{Head}
+use Rattle.simulator.specs.declared.head.Head.{Head}
 
 -- ten words behind the magic: the flags, then the counts
 abbrev pub HeadIn : (image : List ℕ) → Head → Type 0
@@ -9,12 +9,6 @@ HeadIn image h =
     (h.flags ≡ u32_at image 8) × (h.structures ≡ u32_at image 12) × (h.members ≡ u32_at image 16) × (h.programs ≡ u32_at image 20)
     × (h.tags ≡ u32_at image 24) × (h.others ≡ u32_at image 28) × (h.names ≡ u32_at image 32) × (h.tag_names ≡ u32_at image 36)
     × (h.templates ≡ u32_at image 40) × (h.memory ≡ u32_at image 44)
-
--- no count above what T1 allows
-abbrev pub SmallHead : Head → Type 0
-SmallHead h =
-    (h.structures ≤ 64) × (h.members ≤ 512) × (h.programs ≤ 16) × (h.tags ≤ 1024) × (h.others ≤ 64)
-    × (h.names ≤ 26752) × (h.tag_names ≤ 40960) × (h.templates ≤ 65536) × (h.memory ≤ 65536)
 
 -- the head and the rows
 abbrev pub rows_size : Head → ℕ

@@ -1,6 +1,5 @@
 // The pallet bench of document 01, served where no file is given: controller scope, access 0, multi-service and instance IDs on.
-use crate::session;
-use input::options::Options;
+use crate::run::Run;
 use std::io;
 use std::io::Read;
 
@@ -8,12 +7,10 @@ use std::io::Read;
 const MEMORY: [u8; 48] =
     *b"\x2A\0\0\0\x01\0\0\0\x02\0\0\0\x03\0\0\0\x04\0\0\0\x05\0\0\0\x06\0\0\0\x07\0\0\0\x08\0\0\0\x09\0\0\0\x0A\0\0\0\x04\0\0\0";
 
-pub fn serve(
-    from: &mut impl Read,
-    to: &impl Print,
-    err: &impl Print,
-    o: Options,
-) -> io::Result<()> {
-    let mut memory = MEMORY;
-    session::open(from, to, err, &pallet::CONTROLLER, &mut memory, o)
+impl<'a, R: Read, T: Print, E: Print> Run<'a, R, T, E> {
+    /// Serves the bench as the options ask.
+    pub fn serve_bench(self) -> io::Result<()> {
+        let mut memory = MEMORY;
+        self.open(&pallet::CONTROLLER, &mut memory)
+    }
 }

@@ -5,10 +5,13 @@
 ghost use Rattle.std.specs.Prelude.{◌≤◌, length, IfOk};
 
 mod bench;
+mod head;
 mod help;
 mod image;
+mod run;
 mod session;
 
+use crate::run::Run;
 use console::{join, lines};
 use input::options::{Argument, Options};
 use std::alloc::Global;
@@ -19,7 +22,7 @@ use std::io::Read;
 use std::rt::{Env, Files};
 
 /// One byte more than the largest image, so that rest bytes show.
-const MOST: usize = 270385;
+const MOST: usize = image::LARGEST + 1;
 
 /// The longest argument; a longer one is not taken.
 const LONGEST: usize = 4096;
@@ -42,26 +45,7 @@ fn fail(err: &impl Print, alloc: Global, name: &[u8], e: io::Error) -> io::Resul
     }
 }
 
-fn serve_file(
-    rt: &(impl Files + AllocGlobal),
-    from: &mut impl Read,
-    to: &impl Print,
-    err: &impl Print,
-    name: &[u8],
-    o: Options,
-) -> io::Result<()> {
-    let Ok(path) = std::str::from_utf8(name) else {
-        err.write_all(name)?;
-        return println!(err; ": the name of a file has to be UTF-8");
-    };
-    let mut file = [0u8; MOST];
-    match read_file(rt, path, &mut file) {
-        Ok(n) => image::serve(from, to, err, &file[..n], o),
-        Err(e) => fail(err, rt.alloc(), name, e),
-    }
-}
-
-/// How many arguments there are, with the program's name. They are asked for by number, as the system hands them out.
+/// How many arguments there are, with the program's name. `env::args` gives none of them where one is not UTF-8, which is written back as it is here.
 fn arg_count(rt: &impl Env) -> usize {
     let mut text = [0u8; LONGEST];
     for i in 0..usize::MAX {
@@ -109,19 +93,27 @@ fn asked(rt: &impl Env) -> Options {
     o
 }
 
-/// Serves the tables in the file that argument i names.
-fn serve_named(
-    rt: &(impl Env + Files + AllocGlobal),
-    from: &mut impl Read,
-    to: &impl Print,
-    err: &impl Print,
-    i: usize,
-    o: Options,
-) -> io::Result<()> {
-    let mut name = [0u8; LONGEST];
-    match rt.arg(i, &mut name) {
-        Ok(n) => serve_file(rt, from, to, err, &name[..n], o),
-        Err(_) => complain(rt, err, i),
+impl<'a, R: Read, T: Print, E: Print> Run<'a, R, T, E> {
+    /// Serves the tables in the file of this name.
+    fn serve_file(self, rt: &(impl Files + AllocGlobal), name: &[u8]) -> io::Result<()> {
+        let Ok(path) = std::str::from_utf8(name) else {
+            self.err.write_all(name)?;
+            return println!(self.err; ": the name of a file has to be UTF-8");
+        };
+        let mut file = [0u8; MOST];
+        match read_file(rt, path, &mut file) {
+            Ok(n) => self.serve_image(&file[..n]),
+            Err(e) => fail(self.err, rt.alloc(), name, e),
+        }
+    }
+
+    /// Serves the tables in the file that argument i names.
+    fn serve_named(self, rt: &(impl Env + Files + AllocGlobal), i: usize) -> io::Result<()> {
+        let mut name = [0u8; LONGEST];
+        match rt.arg(i, &mut name) {
+            Ok(n) => self.serve_file(rt, &name[..n]),
+            Err(_) => complain(rt, self.err, i),
+        }
     }
 }
 
@@ -129,18 +121,28 @@ fn main(rt: HostRuntime) -> io::Result<()> {
     let mut from = rt.stdin();
     let to = rt.stdout();
     let err = rt.stderr();
-    let o = asked(&rt);
-    if let Some(i) = o.wrong {
+    let options = asked(&rt);
+    if let Some(i) = options.wrong {
         return complain(&rt, &err, i);
     }
-    if o.help {
+    if options.help {
         return help::show(&to);
     }
-    match o.file {
-        // no controller answers, so no table image is taken
-        Some(i) if o.join => complain(&rt, &err, i),
-        None if o.join => join::start(&mut from, &to, &err),
-        Some(i) => serve_named(&rt, &mut from, &to, &err, i, o),
-        None => bench::serve(&mut from, &to, &err, o),
+    if options.join {
+        return match options.file {
+            // no controller answers, so no table image is taken
+            Some(i) => complain(&rt, &err, i),
+            None => join::start(&mut from, &to, &err),
+        };
+    }
+    let run = Run {
+        from: &mut from,
+        to: &to,
+        err: &err,
+        options,
+    };
+    match options.file {
+        Some(i) => run.serve_named(&rt, i),
+        None => run.serve_bench(),
     }
 }

@@ -1,19 +1,24 @@
 // A session: the tables are judged once, then each line of standard input is answered.
-// Tag memory and the buffers stay parameters: what takes a struct of them could put another buffer in, which each contract would have to rule out.
+// Tag memory stays a parameter: a struct of it could get other memory, of another length, and each contract would have to rule that out.
 ghost use Rattle.std.specs.Prelude.{◌≡◌, ◌≤◌, true, length, IfOk, IfSome};
 ghost use Rattle.definition.specs.Valid.{valid};
 ghost use Rattle.model.specs.Tables.{tables_of};
 
+use crate::run::Run;
+use cip::codes::MOST;
 use console::{lines, reply};
 use input::hex;
 use input::lines::Cursor;
-use input::options::Options;
 use model::{Controller, Tables};
 use std::io;
 use std::io::Read;
 
-/// The bytes of the largest request, and of the largest reply.
-const MOST: usize = 65535;
+/// A request's bytes and its reply's. Their lengths are of the type, so no contract speaks of them.
+#[derive(Drop)]
+struct Buffers {
+    request: [u8; MOST],
+    reply: [u8; MOST],
+}
 
 /// Where replies go, the controller that answers, and whether a reply has its line's number before it.
 #[derive(Drop)]
@@ -47,16 +52,16 @@ impl<'a, P: Print> Session<'a, P> {
         memory: &mut [u8],
         line: &[u8],
         number: u64,
-        request: &mut [u8; MOST],
-        buf: &mut [u8; MOST],
+        buffers: &mut Buffers,
     ) -> io::Result<()>
         requires judged { valid (tables_of self.now.c.now.tables) (length memory.old) ≡ true }
     {
+        let Buffers { request, reply } = buffers;
         match hex::parse(line, request) {
             Ok(None) => Ok(()),
             Ok(Some(asked)) => {
                 let shown = self.numbers.then_some(number);
-                self.respond(memory, &request[..asked.len], asked.limit, buf, shown)
+                self.respond(memory, &request[..asked.len], asked.limit, reply, shown)
             }
             Err(fault) => lines::complain(self.to, number, fault),
         }
@@ -67,8 +72,7 @@ impl<'a, P: Print> Session<'a, P> {
         &self,
         memory: &mut [u8],
         input: &[u8],
-        request: &mut [u8; MOST],
-        buf: &mut [u8; MOST],
+        buffers: &mut Buffers,
         place: Cursor,
     ) -> io::Result<Cursor>
         requires judged { valid (tables_of self.now.c.now.tables) (length memory.old) ≡ true }
@@ -78,7 +82,7 @@ impl<'a, P: Print> Session<'a, P> {
         while let Some(len) = input::lines::find(&input[next.at..], b'\n') {
             let end = next.at + len;
             if !next.skipping {
-                self.serve_line(memory, &input[next.at..end], next.line, request, buf)?;
+                self.serve_line(memory, &input[next.at..end], next.line, buffers)?;
             }
             next = Cursor {
                 at: end + 1,
@@ -95,8 +99,7 @@ impl<'a, P: Print> Session<'a, P> {
         from: &mut impl Read,
         memory: &mut [u8],
         input: &mut [u8],
-        request: &mut [u8; MOST],
-        buf: &mut [u8; MOST],
+        buffers: &mut Buffers,
         place: Cursor,
     ) -> io::Result<Option<Cursor>>
         requires inside { place.at ≤ length input.old }
@@ -109,7 +112,7 @@ impl<'a, P: Print> Session<'a, P> {
         let Some(end) = lines::read_more(from, input, place.at)? else {
             return Ok(None);
         };
-        let next = self.serve_lines(memory, &input[..end], request, buf, place)?;
+        let next = self.serve_lines(memory, &input[..end], buffers, place)?;
         Ok(Some(next.shift(input, end)))
     }
 
@@ -117,12 +120,14 @@ impl<'a, P: Print> Session<'a, P> {
     fn serve(&self, from: &mut impl Read, memory: &mut [u8]) -> io::Result<()>
         requires { valid (tables_of self.now.c.now.tables) (length memory.old) ≡ true }
     {
-        let mut input = [0u8; 262144];
-        let mut request = [0u8; MOST];
-        let mut buf = [0u8; MOST];
+        let mut input = [0u8; lines::ROOM];
+        let mut buffers = Buffers {
+            request: [0; MOST],
+            reply: [0; MOST],
+        };
         let mut place = Cursor::first();
         for _ in 0..u64::MAX {
-            match self.turn(from, memory, &mut input, &mut request, &mut buf, place)? {
+            match self.turn(from, memory, &mut input, &mut buffers, place)? {
                 Some(next) => place = next,
                 None => return Ok(()),
             }
@@ -146,25 +151,26 @@ fn judged(err: &impl Print, t: &Tables, memory: &[u8]) -> io::Result<bool>
     }
 }
 
-/// Does with the tables what the options ask: lists them and says what they break, or judges them for this tag memory and then serves them.
-pub fn open(
-    from: &mut impl Read,
-    to: &impl Print,
-    err: &impl Print,
-    c: &Controller,
-    memory: &mut [u8],
-    o: Options,
-) -> io::Result<()> {
-    if o.tables {
-        shown::show(to, &c.tables, memory)?;
+impl<'a, R: Read, T: Print, E: Print> Run<'a, R, T, E> {
+    /// Does with the tables what the options ask: lists them and says what they break, or judges them for this tag memory and then serves them.
+    pub fn open(self, c: &Controller, memory: &mut [u8]) -> io::Result<()> {
+        let Run {
+            from,
+            to,
+            err,
+            options,
+        } = self;
+        if options.tables {
+            shown::show(to, &c.tables, memory)?;
+        }
+        if !judged(err, &c.tables, memory)? || options.tables {
+            return Ok(());
+        }
+        let session = Session {
+            to,
+            c,
+            numbers: options.numbers,
+        };
+        session.serve(from, memory)
     }
-    if !judged(err, &c.tables, memory)? || o.tables {
-        return Ok(());
-    }
-    let session = Session {
-        to,
-        c,
-        numbers: o.numbers,
-    };
-    session.serve(from, memory)
 }

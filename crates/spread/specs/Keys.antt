@@ -1,5 +1,6 @@
 -- The keys by which rows are sorted, as spans of numbers: rows whose spans keep apart have different names, different IDs, or no byte in common.
-use Rattle.std.specs.Prelude.{Bool, List, [], ℕ, ◌+◌, ◌*◌, ◌-◌, ◌%◌, ltb, length, get_or, fold}
+use Rattle.std.specs.Borrow.{Bor}
+use Rattle.std.specs.Prelude.{◌≡◌, Bool, List, [], ℕ, ◌+◌, ◌*◌, ◌-◌, ◌%◌, ltb, length, get_or, fold}
 use Rattle.laws.specs.Pick.{pick, both}
 use Rattle.laws.specs.Tests.{every, pairs}
 use Rattle.definition.specs.Names.{lower}
@@ -40,6 +41,10 @@ abbrev pub byte_span : (structures : List Row) → Row → Span
 byte_span structures r = record { first = tag_offset r; end = end_in structures r }
 
 -- ---- all symbols, the tags first
+
+-- what a function says of a row's span is what f says
+abbrev pub SpansBy : (post : Bor Row → Span → Type 0) → (f : Row → Span) → Type 0
+SpansBy post f = (row : Bor Row) (s : Span) → post row s → s ≡ f row.now
 
 unfoldable pub of_symbol : {A : Type 0} (f g : Row → A) (tags others : List Row) → ℕ → A
 of_symbol f g tags others k = pick (ltb k (length tags)) (f (get_or tags k [])) (g (get_or others (k - length tags) []))

@@ -2,13 +2,15 @@
 // Where they seem not to, a symbol is named that is worth comparing with each behind it: nothing is proved of which.
 ghost use Rattle.std.specs.Prelude.{◌≡◌, true, ◌+◌, ◌≤◌, ◌<◌, IsOk, length, get_or, []};
 ghost use Rattle.laws.specs.Tests.{every, pairs};
+ghost use Rattle.definition.specs.Tables.{Row};
 ghost use Rattle.definition.specs.Valid.{tag_names_differ, other_names_differ, ids_differ, apart};
 ghost use Rattle.model.specs.Tables.{tables_of};
-ghost use Rattle.spread.specs.Keys.{name_key, symbol_key, tag_span, other_span, id_span, byte_span, of_symbol, symbols_judged};
+ghost use Rattle.spread.specs.declared.Span.{Span};
+ghost use Rattle.spread.specs.Keys.{name_key, symbol_key, tag_span, other_span, id_span, byte_span, SpansBy, of_symbol, symbols_judged};
 
-use crate::{MOST_OTHERS, MOST_TAGS, Span, Suspect, spread_by};
+use crate::{Span, Suspect, spread_by};
 use model::columns::{SYMBOL_ID, SYMBOL_NAME_LENGTH, SYMBOL_NAME_START, SYMBOL_SCOPE, TAG_OFFSET};
-use model::{Tables, lookup};
+use model::{Tables, limits, lookup};
 use rows::row;
 
 /// Below this many tags comparing each two takes less time than sorting.
@@ -78,26 +80,22 @@ fn byte_span(row: &[u32; 12], structures: &[[u32; 10]]) -> Span
     }
 }
 
+/// The span of symbol k, the tags first: a tag's row has its own kind of span, and another symbol's row has its own.
 #[tactic(auto, using(laws::proofs::Chain::chain), unfolding(crate::specs::Keys::of_symbol))]
-fn name_span_at(t: &Tables, k: usize) -> Span
-    requires { k < length t.now.tags.now + length t.now.others.now }
-    ensures { result ≡ of_symbol (tag_span t.now.tag_names.now) (other_span t.now.names.now)
-        t.now.tags.now t.now.others.now k }
+fn span_at<F: Fn(&[u32; 12]) -> Span, G: Fn(&[u32; 5]) -> Span>(
+    t: &Tables,
+    k: usize,
+    of_tag: F,
+    of_other: G,
+) -> Span
+    requires symbol { k < length t.now.tags.now + length t.now.others.now }
+    requires callable { F.IsAlwaysCallable of_tag × G.IsAlwaysCallable of_other }
+    ensures { (f g : Row → Span) → SpansBy (F.post of_tag) f → SpansBy (G.post of_other) g
+        → result ≡ of_symbol f g t.now.tags.now t.now.others.now k }
 {
     match t.tags.get(k) {
-        Some(row) => tag_span(row, t.tag_names),
-        None => other_span(&t.others[k - t.tags.len()], t.names),
-    }
-}
-
-#[tactic(auto, using(laws::proofs::Chain::chain), unfolding(crate::specs::Keys::of_symbol))]
-fn id_span_at(t: &Tables, k: usize) -> Span
-    requires { k < length t.now.tags.now + length t.now.others.now }
-    ensures { result ≡ of_symbol id_span id_span t.now.tags.now t.now.others.now k }
-{
-    match t.tags.get(k) {
-        Some(row) => id_span(row),
-        None => id_span(&t.others[k - t.tags.len()]),
+        Some(row) => of_tag(row),
+        None => of_other(&t.others[k - t.tags.len()]),
     }
 }
 
@@ -108,7 +106,17 @@ fn names_differ(t: &Tables) -> Result<(), Suspect>
         × (every (λ r. every (other_names_differ t.now.tag_names.now t.now.names.now r) t.now.others.now)
         t.now.tags.now ≡ true) }
 {
-    spread_by(t.tags.len() + t.others.len(), |k| name_span_at(t, k))
+    let span_of = |k: usize| -> Span
+        requires { k < length t.now.tags.now + length t.now.others.now }
+    {
+        span_at(
+            t,
+            k,
+            |row| tag_span(row, t.tag_names),
+            |row| other_span(row, t.names),
+        )
+    };
+    spread_by(t.tags.len() + t.others.len(), span_of)
 }
 
 fn ids_differ(t: &Tables) -> Result<(), Suspect>
@@ -117,7 +125,10 @@ fn ids_differ(t: &Tables) -> Result<(), Suspect>
         × (every (λ r. every (ids_differ r) t.now.others.now) t.now.tags.now ≡ true)
         × (pairs ids_differ t.now.others.now ≡ true) }
 {
-    spread_by(t.tags.len() + t.others.len(), |k| id_span_at(t, k))
+    spread_by(
+        t.tags.len() + t.others.len(),
+        |k| span_at(t, k, id_span, id_span),
+    )
 }
 
 fn bytes_apart(t: &Tables) -> Result<(), Suspect>
@@ -132,7 +143,7 @@ fn bytes_apart(t: &Tables) -> Result<(), Suspect>
 pub fn sure(t: &Tables) -> Result<(), Suspect>
     ensures { IsOk result → symbols_judged (tables_of t.now) ≡ true }
 {
-    if t.tags.len() < FEW || t.tags.len() > MOST_TAGS || t.others.len() > MOST_OTHERS {
+    if t.tags.len() < FEW || t.tags.len() > limits::TAGS || t.others.len() > limits::OTHERS {
         return Err(Suspect::Unknown);
     }
     bytes_apart(t)?;

@@ -1,8 +1,9 @@
 -- The code's tests as the definition has them: each is the one that stands at its place in the definition's list.
-use Rattle.std.specs.Prelude.{◌≡◌, Bool, true, List, [], ◌∷◌, ℕ, ◌<◌, eqb, get_or, length, Option, None, Some}
+use Rattle.std.specs.Prelude.{◌≡◌, Bool, true, List, [], ◌∷◌, ℕ, ◌+◌, ◌<◌, leb, eqb, get_or, length, Option, None, Some}
 use Rattle.laws.specs.Pick.{pick}
+use Rattle.definition.specs.Bytes.{part}
 use Rattle.definition.specs.Tables.{Tables, Row}
-use Rattle.definition.specs.Breach.{Breach as Defined, RowRule, Test as DefinedTest, row_rule, most, each, no_test, tell, structure_rules, member_rules, program_rules, tag_rules, other_rules, clashes, structures_table, members_table, programs_table, tags_table, others_table}
+use Rattle.definition.specs.Breach.{Breach as Defined, RowRule, name_length, name_bytes, Test as DefinedTest, row_rule, most, each, no_test, tell, structure_rules, member_rules, program_rules, tag_rules, other_rules, clashes, structures_table, members_table, programs_table, tags_table, others_table}
 use Rattle.tables.specs.declared.rules.Rule.{Rule}
 use Rattle.tables.specs.declared.rules.Rule.TheVariants as rule
 use Rattle.tables.specs.declared.rules.Table.{Table}
@@ -15,6 +16,12 @@ use Rattle.tables.specs.Rules.{rule_number, table_number, count_in, limit_of}
 abbrev pub passes : List RowRule → (number : ℕ) → Row → Bool
 passes [] number r = true
 passes (x ∷ xs) number r = pick (eqb x.rule number) (x.passes r) (passes xs number r)
+
+-- of a name, by its store and two columns of its row, where it is a rule of names
+unfoldable pub name_passes : (store : List ℕ) (start size : ℕ) → Rule → Bool
+name_passes store start size x =
+    pick (eqb 1 (rule_number x)) (leb (start + size) (length store))
+    (pick (eqb 201 (rule_number x)) (name_length (part store start size)) (pick (eqb 202 (rule_number x)) (name_bytes (part store start size)) true))
 
 unfoldable pub structure_passes : Tables → Rule → Row → Bool
 structure_passes t x = passes (structure_rules t.names (length t.members) (length t.templates)) (rule_number x)

@@ -3,7 +3,7 @@ ghost use Rattle.std.specs.Prelude.{◌≡◌, length};
 ghost use Rattle.model.specs.Tables.{tables_of};
 ghost use Rattle.tables.specs.Rules.{rule_number, table_number, count_in, limit_of};
 
-use model::Tables;
+use model::{Tables, limits};
 
 /// What must hold of a row; docs/RULES.md has the words. A rule's number is 100 times the number of its T plus 1, 2, ..; those
 /// below 100 are of the rows' encoding.
@@ -88,11 +88,12 @@ impl Table {
         ensures { result ≡ limit_of self }
     {
         match self {
-            Table::Structures | Table::Others => 64,
-            Table::Members => 512,
-            Table::Programs => 16,
-            Table::Tags => 1024,
-            Table::Memory | Table::Templates => 65536,
+            Table::Structures => limits::STRUCTURES,
+            Table::Members => limits::MEMBERS,
+            Table::Programs => limits::PROGRAMS,
+            Table::Tags => limits::TAGS,
+            Table::Others => limits::OTHERS,
+            Table::Memory | Table::Templates => limits::BYTES,
         }
     }
 }

@@ -3,14 +3,14 @@ ghost use Rattle.std.specs.Prelude.{◌≡◌, ◌<◌, length};
 ghost use Rattle.definition.specs.Breach.{row_breach, test_breach};
 ghost use Rattle.model.specs.Tables.{tables_of};
 ghost use Rattle.tables.specs.Rules.{told_of, breach_of};
-ghost use Rattle.tables.specs.Tests.{rule_of, table_of, other_of, test_of, Tells, structure_passes, member_passes, program_passes, tag_passes, other_passes};
+ghost use Rattle.tables.specs.Tests.{rule_of, table_of, other_of, test_of, Tells, name_passes, structure_passes, member_passes, program_passes, tag_passes, other_passes};
 
 use crate::rules::{Breach, Place, Rule, Table};
 use model::Tables;
 use model::columns::{
     MEMBER_ACCESS, MEMBER_BIT, MEMBER_HIDDEN, MEMBER_LOCAL, MEMBER_NAME_LENGTH, MEMBER_NAME_START,
-    MEMBER_TYPE, NO_BIT, OTHER_ID, OTHER_NAME_LENGTH, OTHER_NAME_START, OTHER_SCOPE, OTHER_TYPE,
-    PROGRAM_NAME_LENGTH, PROGRAM_NAME_START, STRUCTURE_AOI, STRUCTURE_FIRST_MEMBER,
+    MEMBER_TYPE, NO_ACCESS, NO_BIT, OTHER_ID, OTHER_NAME_LENGTH, OTHER_NAME_START, OTHER_SCOPE,
+    OTHER_TYPE, PROGRAM_NAME_LENGTH, PROGRAM_NAME_START, STRUCTURE_AOI, STRUCTURE_FIRST_MEMBER,
     STRUCTURE_HANDLE, STRUCTURE_MEMBERS, STRUCTURE_NAME_LENGTH, STRUCTURE_NAME_START,
     STRUCTURE_SIZE, STRUCTURE_TEMPLATE, TAG_ACCESS, TAG_ALIAS, TAG_ID, TAG_NAME_LENGTH,
     TAG_NAME_START, TAG_SCOPE, TAG_TYPE, TEMPLATE_LENGTH, TEMPLATE_START,
@@ -96,16 +96,26 @@ pub const TESTS: [Test; 53] = [
     Test::TagBytes,
 ];
 
-// The next five have the definition's lists of rules, one for each table and each in its order, so that the tests of a name stand in each.
-#[tactic(auto, using(laws::proofs::Chain::tests), unfolding(crate::specs::Tests::structure_passes, definition::specs::Breach::structure_rules))]
+/// What a rule of names says of one, by its store and two columns of its row; of another rule nothing.
+#[tactic(auto, using(laws::proofs::Chain::tests), unfolding(crate::specs::Tests::name_passes))]
+fn name_passes(rule: Rule, store: &[u8], start: u32, n: u32) -> bool
+    ensures { result ≡ name_passes store.now start n rule }
+{
+    match rule {
+        Rule::NameStored => row::within(start, n, store.len()),
+        Rule::NameLength => row::name_length(part_of(store, start, n)),
+        Rule::NameBytes => row::name_bytes(part_of(store, start, n)),
+        _ => true,
+    }
+}
+
+// The next five have the definition's lists of rules, one for each table and each in its order.
+#[tactic(auto, using(laws::proofs::Chain::tests), unfolding(crate::specs::Tests::name_passes, crate::specs::Tests::structure_passes, definition::specs::Breach::structure_rules))]
 fn structure_passes(rule: Rule, row: &[u32; 10], t: &Tables) -> bool
     ensures { result ≡ structure_passes (tables_of t.now) rule row.now }
 {
     let (start, n) = (row[STRUCTURE_NAME_START], row[STRUCTURE_NAME_LENGTH]);
     match rule {
-        Rule::NameStored => row::within(start, n, t.names.len()),
-        Rule::NameLength => row::name_length(part_of(t.names, start, n)),
-        Rule::NameBytes => row::name_bytes(part_of(t.names, start, n)),
         Rule::TemplateIdFits => row::fits16(row[STRUCTURE_TEMPLATE]),
         Rule::HandleFits => row::fits16(row[STRUCTURE_HANDLE]),
         Rule::MembersStored => row::within(
@@ -118,75 +128,66 @@ fn structure_passes(rule: Rule, row: &[u32; 10], t: &Tables) -> bool
         Rule::TemplateStored => {
             row::within(row[TEMPLATE_START], row[TEMPLATE_LENGTH], t.templates.len())
         }
-        _ => true,
+        _ => name_passes(rule, t.names, start, n),
     }
 }
 
-#[tactic(auto, using(laws::proofs::Chain::tests), unfolding(crate::specs::Tests::member_passes, definition::specs::Breach::member_rules))]
+#[tactic(auto, using(laws::proofs::Chain::tests), unfolding(crate::specs::Tests::name_passes, crate::specs::Tests::member_passes, definition::specs::Breach::member_rules))]
 fn member_passes(rule: Rule, row: &[u32; 9], t: &Tables) -> bool
     ensures { result ≡ member_passes (tables_of t.now) rule row.now }
 {
     let (start, n) = (row[MEMBER_NAME_START], row[MEMBER_NAME_LENGTH]);
     match rule {
-        Rule::NameStored => row::within(start, n, t.names.len()),
-        Rule::NameLength => row::name_length(part_of(t.names, start, n)),
-        Rule::NameBytes => row::name_bytes(part_of(t.names, start, n)),
         Rule::TypeKnown => row::is_type(t.structures.len(), row[MEMBER_TYPE]),
         Rule::HiddenMark => row[MEMBER_HIDDEN] <= 1,
         Rule::LocalMark => row[MEMBER_LOCAL] <= 1,
-        Rule::Access => row[MEMBER_ACCESS] <= 3,
+        Rule::Access => row[MEMBER_ACCESS] <= NO_ACCESS,
         Rule::Bit => row[MEMBER_BIT] <= NO_BIT,
-        _ => true,
+        _ => name_passes(rule, t.names, start, n),
     }
 }
 
-#[tactic(auto, using(laws::proofs::Chain::tests), unfolding(crate::specs::Tests::program_passes, definition::specs::Breach::program_rules))]
+#[tactic(auto, using(laws::proofs::Chain::tests), unfolding(crate::specs::Tests::name_passes, crate::specs::Tests::program_passes, definition::specs::Breach::program_rules))]
 fn program_passes(rule: Rule, row: &[u32; 2], t: &Tables) -> bool
     ensures { result ≡ program_passes (tables_of t.now) rule row.now }
 {
-    let (start, n) = (row[PROGRAM_NAME_START], row[PROGRAM_NAME_LENGTH]);
-    match rule {
-        Rule::NameStored => row::within(start, n, t.names.len()),
-        Rule::NameLength => row::name_length(part_of(t.names, start, n)),
-        Rule::NameBytes => row::name_bytes(part_of(t.names, start, n)),
-        _ => true,
-    }
+    name_passes(
+        rule,
+        t.names,
+        row[PROGRAM_NAME_START],
+        row[PROGRAM_NAME_LENGTH],
+    )
 }
 
-#[tactic(auto, using(laws::proofs::Chain::refusals), unfolding(crate::specs::Tests::tag_passes, definition::specs::Breach::tag_rules))]
+#[tactic(auto, using(laws::proofs::Chain::refusals), unfolding(crate::specs::Tests::name_passes, crate::specs::Tests::tag_passes, definition::specs::Breach::tag_rules))]
 fn tag_passes(rule: Rule, row: &[u32; 12], t: &Tables, memory: usize) -> bool
     ensures { result ≡ tag_passes (tables_of t.now) memory rule row.now }
 {
     let (start, n) = (row[TAG_NAME_START], row[TAG_NAME_LENGTH]);
     match rule {
-        Rule::NameStored => row::within(start, n, t.tag_names.len()),
-        Rule::NameLength => row::name_length(part_of(t.tag_names, start, n)),
-        Rule::NameBytes => row::name_bytes(part_of(t.tag_names, start, n)),
         Rule::ScopeKnown => row[TAG_SCOPE] as usize <= t.programs.len(),
         Rule::AliasMark => row[TAG_ALIAS] <= 1,
-        Rule::Access => row[TAG_ACCESS] <= 3,
+        Rule::Access => row[TAG_ACCESS] <= NO_ACCESS,
         Rule::IdNonzero => row[TAG_ID] != 0,
         Rule::TagType => row::is_type(t.structures.len(), row[TAG_TYPE]),
         Rule::LengthsFirst => row::lengths_first(row),
         Rule::Elements => row::elements_fit(row),
         Rule::InsideMemory => row::tag_within(row, t.structures, memory),
-        _ => true,
+        _ => name_passes(rule, t.tag_names, start, n),
     }
 }
 
-#[tactic(auto, using(laws::proofs::Chain::refusals), unfolding(crate::specs::Tests::other_passes, definition::specs::Breach::other_rules))]
+#[tactic(auto, using(laws::proofs::Chain::refusals), unfolding(crate::specs::Tests::name_passes, crate::specs::Tests::other_passes, definition::specs::Breach::other_rules))]
 fn other_passes(rule: Rule, row: &[u32; 5], t: &Tables) -> bool
     ensures { result ≡ other_passes (tables_of t.now) rule row.now }
 {
     let (start, n) = (row[OTHER_NAME_START], row[OTHER_NAME_LENGTH]);
     match rule {
-        Rule::NameStored => row::within(start, n, t.names.len()),
         Rule::NameLength => row::other_length(part_of(t.names, start, n)),
-        Rule::NameBytes => row::name_bytes(part_of(t.names, start, n)),
         Rule::ScopeKnown => row[OTHER_SCOPE] as usize <= t.programs.len(),
         Rule::SymbolTypeFits => row::fits16(row[OTHER_TYPE]),
         Rule::IdNonzero => row[OTHER_ID] != 0,
-        _ => true,
+        _ => name_passes(rule, t.names, start, n),
     }
 }
 
@@ -242,6 +243,8 @@ impl Test {
         }
     }
 
+    // Tables and memory by themselves from here on: in a struct of the two, `holds` has to write `set.t.tags[i]` at each row and grows
+    // past 40 lines, since behind a `let t = set.t` the check does not know how long the tables may be.
     /// How many rows of the other table it goes through; one turn where there is none.
     #[tactic(auto, unfolding(definition::specs::Breach::clashes))]
     fn others(self, t: &Tables, memory: &[u8]) -> usize

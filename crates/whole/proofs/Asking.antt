@@ -6,16 +6,15 @@ use mathlib.Core.List.{List, [], ◌∷◌, ◌++◌, append_assoc, append-nil}
 use Rattle.std.specs.Prelude.{Option, None, Some}
 use Prim.Native.Nat.{ℕ, suc, ◌+◌, ◌/◌, ◌%◌, ◌≤◌, ◌<◌}
 use native.Mathlib.Omega.{arith}
-use lib.Dec.{leb, eqb}
+use lib.Dec.{eqb}
 use lib.ListN.{length, get_or, length-append}
 use lib.Seq.{take-append_seam, get_or-append-add}
-use borrow.Author.Tests.{leb-true, le-leb, lt-ltb, eqb-true, eqb-false, eq-eqb, ne_eqb}
+use borrow.Author.Tests.{le-leb, lt-ltb, eqb-true, eqb-false, eq-eqb, ne_eqb}
 use Rattle.laws.specs.Pick.{pick}
 use Rattle.laws.specs.Put.{put}
 use Rattle.laws.specs.Tests.{every}
 use Rattle.laws.proofs.Chain.{by_test, clash}
 use Rattle.laws.proofs.Put.{put_then, put-none}
-use Rattle.laws.proofs.Tests.{both_true}
 use Rattle.definition.specs.Bytes.{le32, u32_at, counted}
 use Rattle.definition.specs.Reply.{Answer, answered}
 use Rattle.definition.specs.Segment.{Segment, class, instance, symbol, step, kind_of, logical_at, sized_at, segment_at, segments_from, segments}
@@ -28,14 +27,10 @@ use Rattle.cip.specs.Writes.{Written}
 use Rattle.path.proofs.Segments.{segments_end, segments_next}
 use Rattle.continued.specs.Point3.{Encodes}
 use Rattle.continued.proofs.Requests.{u32_le32, to_service}
-use Rattle.whole.specs.Lists.{scope_named, scope_of, name_path, scope_path, list_path, list_request, is_askable}
+use Rattle.whole.specs.Short.{path-length, list_length}
+use Rattle.whole.specs.Lists.{scope_named, scope_of, name_path, scope_path, list_path, list_request}
 
 -- ---- the bytes
-
-pub askable-short : (program attributes : List ℕ) → is_askable program attributes ≡ true → (length program ≤ 255) × (length attributes ≤ 1024)
-askable-short program attributes e =
-    let b = both_true (leb (length program) 255) (leb (length attributes) 1024) e in
-    (leb-true (length program) 255 b.0, leb-true (length attributes) 1024 b.1)
 
 module _ (program : List ℕ) where
   no_name : length program ≡ 0 → scope_path program ≡ []
@@ -75,12 +70,16 @@ module _ (program : List ℕ) where
   pub scope-none : (old : List ℕ) → length program ≡ 0 → old ≡ put old 2 (scope_path program)
   scope-none old e = rw (no_name e) (sym (put-none old 2))
 
-  module _ (old a b c : List ℕ) (words : ℕ) (short : length program ≤ 255) (fits : 260 ≤ length old) (Some : length program ≡ 0 → ⊥)
+  module _ (old a b c : List ℕ) (words : ℕ) (short : length program ≤ 255) (fits : 2 + length (scope_path program) ≤ length old)
+      (Some : length program ≡ 0 → ⊥)
       (p : a ≡ put old 2 (0x91 ∷ [])) (q : b ≡ put a 3 (words ∷ [])) (w : words ≡ length program) (r : c ≡ put b 4 program) where
+    name_fits : 4 + length program + length program % 2 ≤ length old
+    name_fits = omega (arith, (size_named short Some).0)
+
     name_put : c ≡ put old 2 (0x91 ∷ length program ∷ program)
     name_put =
-        let two = put_then _ _ _ 2 _ _ _ p q refl (omega arith) in
-        let three = put_then _ _ _ 2 _ _ _ two r refl (omega arith) in
+        let two = put_then _ _ _ 2 _ _ _ p q refl (omega (arith, name_fits)) in
+        let three = put_then _ _ _ 2 _ _ _ two r refl (omega (arith, name_fits)) in
         rw w at three
 
     pub scope_put_even : length program % 2 ≡ 0 → c ≡ put old 2 (scope_path program)
@@ -89,31 +88,26 @@ module _ (program : List ℕ) where
     pub scope_put_odd : (d : List ℕ) → (length program % 2 ≡ 0 → ⊥) → d ≡ put c (4 + length program) (0 ∷ []) → d ≡ put old 2 (scope_path program)
     scope_put_odd d e s =
         rw (a_name Some, name_odd e)
-        (put_then _ _ _ 2 (0x91 ∷ length program ∷ program) _ _ name_put s (omega arith) (omega arith))
+        (put_then _ _ _ 2 (0x91 ∷ length program ∷ program) _ _ name_put s (omega arith) (omega (arith, name_fits)))
 
 module _ (program attributes : List ℕ) (id : ℕ) where
-  pub path-length : length (list_path program id) ≡ length (scope_path program) + 8
-  unfolding list_path
-  path-length = length-append (scope_path program) _
-
-  pub list_length : length (list_request program attributes id) ≡ 10 + length (scope_path program) + length attributes
-  unfolding list_request
-  list_length = omega (arith, length-append (list_path program id) attributes, path-length)
+  abbrev symbols_from : List ℕ
+  symbols_from = 0x20 ∷ 0x6B ∷ 0x26 ∷ 0x00 ∷ []
 
   pub list_put : (n words : ℕ) (old a b c d e g : List ℕ) → n ≡ length (scope_path program) → 10 + n + length attributes ≤ length old → words ≡ (n + 8) / 2
       → a ≡ put old 0 (0x55 ∷ []) → b ≡ put a 1 (words ∷ []) → c ≡ put b 2 (scope_path program)
-      → d ≡ put c (2 + n) (le32 0x00266B20) → e ≡ put d (6 + n) (le32 id) → g ≡ put e (10 + n) attributes
+      → d ≡ put c (2 + n) symbols_from → e ≡ put d (6 + n) (le32 id) → g ≡ put e (10 + n) attributes
       → Written 0 (list_request program attributes id) old (10 + n + length attributes) g
   unfolding list_request list_path
   list_put n words old a b c d e g l fits w p q r s u v =
       let two = put_then _ _ _ 0 _ _ _ p q refl (omega arith) in
       let three = put_then _ _ _ 0 _ _ _ two r refl (omega arith) in
       let four = put_then _ _ _ 0 _ _ _ three s (omega arith) (omega arith) in
-      let five = put_then _ _ _ 0 _ _ _ four u (omega (arith, length-append (scope_path program) (le32 0x00266B20))) (omega arith) in
-      let joined = append_assoc (scope_path program) (le32 0x00266B20) (le32 id) in
-      let six = put_then _ _ _ 0 _ _ _ (rw joined at five) v (omega (arith, path-length)) (omega arith) in
-      let k : words ≡ length (list_path program id) / 2 = w ∙ rw (path-length, l) refl in
-      record { length_is = omega (arith, list_length); buffer_is = rw k at six }
+      let five = put_then _ _ _ 0 _ _ _ four u (omega (arith, length-append (scope_path program) symbols_from)) (omega arith) in
+      let joined = append_assoc (scope_path program) symbols_from (le32 id) in
+      let six = put_then _ _ _ 0 _ _ _ (rw joined at five) v (omega (arith, path-length program attributes id)) (omega arith) in
+      let k : words ≡ length (list_path program id) / 2 = w ∙ rw (path-length program attributes id, l) refl in
+      record { length_is = omega (arith, list_length program attributes id); buffer_is = rw k at six }
 
 -- ---- the segments of the path
 

@@ -1,95 +1,87 @@
 -- A reply's data as it lies in the reply buffer, and the replies' data joined one after the other.
 -- Assumes nothing.
 use mathlib.Core.Path.{◌≡◌, refl, sym, ap, ◌∙◌}
-use mathlib.Core.Logic.{◌≢◌}
 use mathlib.Core.List.{List, []}
 use Prim.Native.Nat.{ℕ, ◌+◌, ◌-◌, ◌≤◌, ◌<◌}
 use native.Mathlib.Omega.{arith}
 use lib.Dec.{leb}
-use lib.ListN.{length, take, drop, get_or, length-append, length-take, length-drop, take-append-drop}
+use lib.ListN.{length, take, drop, get_or, length-append, length-drop, take-append-drop}
 use lib.Seq.{take_all, take-add, drop-drop, drop-append_seam, length-take-le}
 use borrow.Author.Tests.{le-leb, lt-leb, leb-false}
 use Rattle.laws.specs.Put.{put, laid, KeptFrom}
 use Rattle.laws.proofs.Put.{put_then, length_part, kept_laid}
-use Rattle.laws.proofs.Parts.{laid-byte, laid_rest, laid-drop}
+use Rattle.laws.proofs.Parts.{laid-drop}
 use Rattle.laws.proofs.Until.{until-done, until_more}
 use Rattle.definition.specs.Reply.{Answer, reply, room}
 use Rattle.definition.specs.Tables.{Tables, Flags}
 use Rattle.definition.specs.Fragment.{space, rounded, size_of, status_of, fragment_reply}
 use Rattle.definition.specs.Read.{selected_bytes}
 use Rattle.definition.specs.Answer.{answer}
-use Rattle.definition.proofs.Cut.{Cut, whole, part, cuts, size_positive, size_le, size_fits, rounded_positive, rounded_le}
+use Rattle.definition.proofs.Cut.{Cut, whole, part, cuts, size_positive, size_le, rounded_positive, rounded_le}
 use Rattle.definition.proofs.Replies.{proper_answer}
 use Rattle.definition.proofs.Selected.{granted-some}
 use Rattle.cip.specs.Writes.{Written}
 use Rattle.continued.specs.Point3.{read_request, Readable}
 use Rattle.continued.proofs.Point3.{selected-few}
-use Rattle.whole.specs.declared.joins.Turn.{Turn}
-use Rattle.whole.specs.declared.joins.Turn.TheVariants.{Last, More}
-use Rattle.services.specs.Answers.{Answers}
+use Rattle.whole.specs.declared.asked.Turn.{Turn}
+use Rattle.whole.specs.declared.asked.Turn.TheVariants.{Last, More}
 use Rattle.whole.specs.Whole.{chosen, is_sendable, last_chunk}
-use Rattle.whole.specs.Asked.{Taken}
+use Rattle.whole.specs.Asked.{Taken, Holds, Joined}
 use Rattle.whole.specs.Parts.{chosen_bytes, last_of, Joinable, Brings}
 use Rattle.whole.proofs.Sending.{readable, selected-answer}
 
 -- ---- a fragment of the bytes from an offset on
 
-module _ (header selected old new : List ℕ) (offset limit n : ℕ) (due : offset < length selected) (space-left : 5 + length header ≤ limit)
-    (length_is : n ≡ length (fragment_reply 0x52 header (drop offset selected) limit))
-    (lies : new ≡ laid (room limit) old (fragment_reply 0x52 header (drop offset selected) limit)) where
+module _ (header selected : List ℕ) (offset limit : ℕ) (due : offset < length selected) (space-left : 5 + length header ≤ limit) where
   abbrev size : ℕ
   size = size_of (length selected - offset) (space (length header) limit)
+
+  abbrev sent : List ℕ
+  sent = fragment_reply 0x52 header (drop offset selected) limit
 
   sent_length : length (take size (drop offset selected)) ≡ size
   sent_length = length_part selected offset size (omega (arith, size_le (length selected - offset) (space (length header) limit)))
 
-  pub fragment_length : n ≡ 4 + length header + size
+  pub fragment_length : length sent ≡ 4 + length header + size
   unfolding fragment_reply reply
   fragment_length =
-      let e = rw (length-drop offset selected) at length_is in
-      omega (arith, e, length-append header (take size (drop offset selected)), sent_length)
+      rw (length-drop offset selected) (omega (arith, length-append header (take size (drop offset selected)), sent_length))
 
-  pub fragment_data : (first : ℕ) → first ≡ 4 + length header → take (n - first) (drop first new) ≡ take size (drop offset selected)
-  unfolding fragment_reply reply
-  fragment_data first e =
-      laid_rest (room limit) old _ new lies first n length_is (omega (arith, fragment_length))
-      ∙ rw (e, ← drop-drop (length header) 4, length-drop, drop-append_seam) refl
+  module _ (first : ℕ) (behind : first ≡ 4 + length header) where
+    fragment_data : drop first sent ≡ take size (drop offset selected)
+    unfolding fragment_reply reply
+    fragment_data = rw (behind, ← drop-drop (length header) 4, length-drop, drop-append_seam) refl
 
-  pub fragment_status : get_or new 2 0 ≡ status_of (length selected - offset) (space (length header) limit)
-  unfolding fragment_reply reply
-  fragment_status = laid-byte (room limit) old _ new lies 2 (omega (arith, length_is, fragment_length)) ∙ rw (length-drop offset selected) refl
+    fragment_status : get_or sent 2 0 ≡ status_of (length selected - offset) (space (length header) limit)
+    unfolding fragment_reply reply
+    fragment_status = rw (length-drop offset selected) refl
 
-  module _ (first end : ℕ) (out filled : List ℕ) (behind : first ≡ 4 + length header) (joins : filled ≡ put out offset (take (n - first) (drop first new)))
-      (ends : end ≡ offset + (n - first)) where
-    joined : filled ≡ put out offset (take size (drop offset selected))
-    joined = joins ∙ ap (put out offset) (fragment_data first behind)
+    module _ (out filled : List ℕ) (v : Turn) (j : Joined sent first offset out v filled) where
+      joined : filled ≡ put out offset (take size (drop offset selected))
+      joined = j.out_is ∙ ap (put out offset) fragment_data
 
-    ending : end ≡ offset + size
-    ending = omega (arith, fragment_length)
+      ending : offset + (length sent - first) ≡ offset + size
+      ending = omega (arith, fragment_length)
 
-    pub brings_last : get_or new 2 0 ≡ 0 → Brings (space (length header) limit) selected offset out (Last end) filled
-    brings_last z = go (cuts (length selected - offset) (space (length header) limit))
-      where
-        go : Cut (length selected - offset) (space (length header) limit) → Brings (space (length header) limit) selected offset out (Last end) filled
-        go (whole h e k) = record {
-          is = (
-            omega (arith, ending),
-            joined ∙ ap (put out offset) (take_all size (drop offset selected) (omega (arith, length-drop offset selected))),
-            omega arith,
-          );
-        }
-        go (part h e k) = absurd (omega (arith, fragment_status))
-
-    pub brings_more : get_or new 2 0 ≢ 0 → Brings (space (length header) limit) selected offset out (More end) filled
-    brings_more z = go (cuts (length selected - offset) (space (length header) limit))
-      where
-        go : Cut (length selected - offset) (space (length header) limit) → Brings (space (length header) limit) selected offset out (More end) filled
-        go (whole h e k) = absurd (z (fragment_status ∙ k))
-        go (part h e k) =
-            let some = size_positive (length selected - offset) (space (length header) limit) (omega arith) (omega arith) in
-            let few = rounded_le (space (length header) limit) in
-            let q : end - offset ≡ size = omega (arith, ending) in
-            record { is = (omega (arith, ending), omega (arith, ending), rw q joined, omega arith, omega (arith, ending)) }
+      pub brings : Brings (space (length header) limit) selected offset out v filled
+      brings = go (cuts (length selected - offset) (space (length header) limit))
+        where
+          go : Cut (length selected - offset) (space (length header) limit) → Brings (space (length header) limit) selected offset out v filled
+          go (whole h e k) =
+              let is : v ≡ Last (offset + size) = j.turn_is ∙ rw (fragment_status, k, ending) refl in
+              rw is (record {
+                is = (
+                  omega arith,
+                  joined ∙ ap (put out offset) (take_all size (drop offset selected) (omega (arith, length-drop offset selected))),
+                  omega arith,
+                );
+              })
+          go (part h e k) =
+              let is : v ≡ More (offset + size) = j.turn_is ∙ rw (fragment_status, k, ending) refl in
+              let some = size_positive (length selected - offset) (space (length header) limit) (omega arith) (omega arith) in
+              let few = rounded_le (space (length header) limit) in
+              let q : offset + size - offset ≡ size = omega arith in
+              rw is (record { is = (omega arith, omega arith, rw q joined, omega arith, omega arith) })
 
 -- ---- one reply to a read that selects something
 
@@ -104,9 +96,6 @@ module _ {t : Tables} {f : Flags} {m path : List ℕ} {elements limit header buf
   pub chosen-few : (got : ℕ) → got < length (chosen_bytes m (chosen t f path elements)) → got ≤ 65536
   chosen-few got due = omega (arith, rw chosen-bytes at due, selected-few t j.selection m a.tables)
 
-  pub chosen_same : {memory : List ℕ} → memory ≡ m → chosen_bytes memory (chosen t f path elements) ≡ chosen_bytes m (chosen t f path elements)
-  chosen_same e = ap (λ (l : List ℕ). chosen_bytes l (chosen t f path elements)) e
-
   reads : elements < 65536 → Readable t f m path elements j.selection
   reads count = readable t f m path elements j.selection a.sendable a.tables count j.chosen_is
 
@@ -118,55 +107,36 @@ module _ {t : Tables} {f : Flags} {m path : List ℕ} {elements limit header buf
   sent_is got count due =
       ap (λ (x : Answer). x.reply) (selected-answer t f m path elements j.selection got limit (reads count) (rw chosen-bytes at due))
 
-module _ {t : Tables} {f : Flags} {m path : List ℕ} {elements limit header got buffer room_out n : ℕ} {old new left : List ℕ}
-    (p : Taken (is_sendable path) t m limit buffer × Joinable t f m path elements limit header room_out
-    × (got < length (chosen_bytes m (chosen t f path elements))))
-    (count : elements < 65536)
-    (r : Answers limit (answer t f m (read_request path elements got) limit) old n new left) where
+module _ {t : Tables} {f : Flags} {m path : List ℕ} {elements limit header got buffer room_out : ℕ} (a : Taken (is_sendable path) t m limit buffer)
+    (j : Joinable t f m path elements limit header room_out) (due : got < length (chosen_bytes m (chosen t f path elements)))
+    (count : elements < 65536) {memory : List ℕ} (same : memory ≡ m) where
   abbrev selected : List ℕ
-  selected = selected_bytes p.1.selection m
+  selected = selected_bytes j.selection m
+
+  abbrev replied : List ℕ
+  replied = (answer t f memory (read_request path elements got) limit).reply
 
   less : got < length selected
-  less = rw (chosen-bytes p.0 p.1) at p.2
+  less = rw (chosen-bytes a j) at due
 
-  reply_is : (answer t f m (read_request path elements got) limit).reply ≡ fragment_reply 0x52 p.1.selection.header (drop got selected) limit
-  reply_is = sent_is p.0 p.1 got count p.2
+  reply_is : replied ≡ fragment_reply 0x52 j.selection.header (drop got selected) limit
+  reply_is = rw same (sent_is a j got count due)
 
-  long : n ≡ length (fragment_reply 0x52 p.1.selection.header (drop got selected) limit)
-  long = r.length_is ∙ ap (λ (l : List ℕ). length l) reply_is
+  open_space : 5 + length j.selection.header ≤ limit
+  open_space = omega (arith, j.header_is, j.some_room)
 
-  lies : new ≡ laid (room limit) old (fragment_reply 0x52 p.1.selection.header (drop got selected) limit)
-  lies = r.buffer_is ∙ ap (laid (room limit) old) reply_is
+  part_length : length replied ≡ 4 + header + size_of (length selected - got) (space header limit)
+  part_length = rw (reply_is, j.header_is) (fragment_length j.selection.header selected got limit less open_space)
 
-  open_space : 5 + length p.1.selection.header ≤ limit
-  open_space = omega (arith, p.1.header_is, p.1.some_room)
+  pub part_holds : Holds replied (4 + header) got room_out
+  part_holds =
+      (omega (arith, part_length), omega (arith, part_length, size_le (length selected - got) (space header limit), less, j.fits))
 
-  part_length : n ≡ 4 + header + size_of (length selected - got) (space header limit)
-  part_length = rw p.1.header_is (fragment_length p.1.selection.header selected old new got limit n less open_space long lies)
-
-  -- the data stands in the reply buffer
-  pub part_inside : (4 + header ≤ n) × (n ≤ buffer) × (n ≤ 65535)
-  part_inside =
-      let fits : n ≤ limit = omega (arith, part_length, size_fits (length selected - got) (space header limit), p.1.some_room) in
-      (omega (arith, part_length), omega (arith, p.0.has_room), omega (arith, p.0.limit_fits))
-
-  pub part_fits : got + length (take (n - (4 + header)) (drop (4 + header) new)) ≤ room_out
-  part_fits =
-      omega (arith, length-take (n - (4 + header)) (drop (4 + header) new), part_length, size_le (length selected - got) (space header limit), less, p.1.fits)
-
-  module _ (first end : ℕ) (out filled : List ℕ) (behind : first ≡ 4 + header) (joins : filled ≡ put out got (take (n - first) (drop first new)))
-      (ends : end ≡ got + (n - first)) where
-    pub part_last : get_or new 2 0 ≡ 0 → Brings (space header limit) (chosen_bytes m (chosen t f path elements)) got out (Last end) filled
-    part_last z =
-        rw (chosen-bytes p.0 p.1, p.1.header_is)
-        (brings_last p.1.selection.header selected old new got limit n less open_space long lies first end out filled
-        (omega (arith, behind, p.1.header_is)) joins ends z)
-
-    pub part_more : get_or new 2 0 ≢ 0 → Brings (space header limit) (chosen_bytes m (chosen t f path elements)) got out (More end) filled
-    part_more z =
-        rw (chosen-bytes p.0 p.1, p.1.header_is)
-        (brings_more p.1.selection.header selected old new got limit n less open_space long lies first end out filled
-        (omega (arith, behind, p.1.header_is)) joins ends z)
+  pub part_brings : {out filled : List ℕ} {v : Turn} → Joined replied (4 + header) got out v filled
+      → Brings (space header limit) (chosen_bytes m (chosen t f path elements)) got out v filled
+  part_brings {out} {filled} {v} joins =
+      rw (chosen-bytes a j, j.header_is)
+      (brings j.selection.header selected got limit less open_space (4 + header) (omega (arith, j.header_is)) out filled v (rw reply_is at joins))
 
 -- ---- the last chunk: one reply more, and the last one
 
@@ -211,12 +181,10 @@ pub joined-none : (out : List ℕ) → out ≡ put out 0 []
 unfolding put
 joined-none out = refl
 
--- `selected` are the bytes by the memory at the start, `current` by the memory at a turn
-module _ {space : ℕ} {selected current out filled : List ℕ} {got : ℕ} {v : Turn} (start : List ℕ) (fits : length selected ≤ length start)
-    (same : current ≡ selected) (before : out ≡ put start 0 (take got selected)) (due : got < length selected)
-    (brings : Brings space current got out v filled) where
+module _ {space : ℕ} {selected out filled : List ℕ} {got : ℕ} {v : Turn} (start : List ℕ) (fits : length selected ≤ length start)
+    (before : out ≡ put start 0 (take got selected)) (due : got < length selected) (brings : Brings space selected got out v filled) where
   brought : (w : Turn) → v ≡ w → Brings space selected got out w filled
-  brought w e = rw (← same, ← e) brings
+  brought w e = rw (← e) brings
 
   got_length : got ≡ 0 + length (take got selected)
   got_length = omega (arith, length-take-le got selected (omega arith))

@@ -1,4 +1,5 @@
 pub mod Statuses
+pub mod Brought
 pub mod Sending
 pub mod Joining
 pub mod Sizing

@@ -1,21 +1,20 @@
 -- A page as it lies in the reply buffer, the pages' entries joined one after the other, and what a whole list comes to.
 -- Assumes nothing.
 use mathlib.Core.Path.{◌≡◌, refl, sym, ap, ◌∙◌}
-use mathlib.Core.Logic.{◌≢◌}
 use mathlib.Core.List.{List, [], ◌∷◌, ◌++◌, append_assoc}
 use Rattle.std.specs.Prelude.{Bool, Option, None, Some}
-use Prim.Native.Nat.{ℕ, zero, suc, ◌+◌, ◌-◌, ◌*◌, ◌≤◌, ◌<◌}
+use Prim.Native.Nat.{ℕ, zero, suc, ◌+◌, ◌-◌, ◌≤◌, ◌<◌}
 use native.Mathlib.Omega.{arith}
-use lib.Dec.{leb, eqb}
-use lib.ListN.{length, take, drop, get_or, length-append, length-take, length-drop, take-append-drop}
+use lib.Dec.{eqb}
+use lib.ListN.{length, take, drop, get_or, length-append, length-drop, take-append-drop}
 use lib.Seq.{take_all}
-use borrow.Author.Tests.{leb-true, le-leb, lt-leb, eqb-true, eqb-false, eq-eqb, ne_eqb}
+use borrow.Author.Tests.{le-leb, lt-leb, eqb-true, eqb-false, eq-eqb, ne_eqb}
 use Rattle.laws.specs.Pick.{pick}
 use Rattle.laws.specs.Put.{put, laid, KeptFrom}
 use Rattle.laws.specs.Sorted.{All}
 use Rattle.laws.proofs.Chain.{by_test}
 use Rattle.laws.proofs.Put.{put_then, kept_laid, kept_then, kept_less}
-use Rattle.laws.proofs.Parts.{laid-byte, laid_rest, laid-drop}
+use Rattle.laws.proofs.Parts.{laid-drop}
 use Rattle.laws.proofs.Sorted.{All-from}
 use Rattle.laws.proofs.Until.{until-done, until_more}
 use Rattle.definition.specs.Reply.{reply, room}
@@ -24,16 +23,16 @@ use Rattle.definition.specs.Page.{Entry, id_of, bytes_of, fitting, page_reply}
 use Rattle.definition.specs.Symbols.{listing, due}
 use Rattle.definition.specs.Answer.{answer}
 use Rattle.definition.proofs.Listing.{listing-some}
-use Rattle.definition.proofs.Replies.{proper_answer}
+use Rattle.definition.proofs.Replies.{fitting-fits}
 use Rattle.cip.specs.Writes.{Written}
 use Rattle.continued.proofs.Entries.{bytes-append, bytes-some, fitting_le, fitting-some, fits_first}
-use Rattle.services.specs.Answers.{Answers}
-use Rattle.whole.specs.declared.joins.Turn.{Turn}
-use Rattle.whole.specs.declared.joins.Turn.TheVariants.{Last, More}
-use Rattle.whole.specs.Asked.{Taken}
+use Rattle.whole.specs.declared.asked.Turn.{Turn}
+use Rattle.whole.specs.declared.asked.Turn.TheVariants.{Last, More}
+use Rattle.whole.specs.Asked.{Taken, Holds, Joined}
 use Rattle.whole.specs.Lists.{list_request, is_askable, longest, behind, last_page}
 use Rattle.whole.specs.Turns.{Granted, StartsAt, BringsPage, Paged}
-use Rattle.whole.proofs.Asking.{askable-short, list_granted}
+use Rattle.whole.specs.Short.{askable-short}
+use Rattle.whole.proofs.Asking.{list_granted}
 
 -- ---- entries and the longest of them
 
@@ -59,25 +58,7 @@ pub due-some : (t : Tables) (scope : ℕ) (attributes : List ℕ) (start : ℕ) 
 unfolding due
 due-some t scope attributes start = All-from id_of _ start (listing t scope attributes) (listing-some scope attributes t)
 
-bytes-few : (es : List Entry) → longest es ≤ 65535 → length (bytes_of es) ≤ 65535 * length es
-unfolding longest bytes_of
-bytes-few [] h = omega arith
-bytes-few (e ∷ es) h = omega (arith, bytes-few es (omega arith), length-append e.bytes (bytes_of es))
-
--- as many entries as fit are no longer than the space, and just they fit in their own length
-fitting-bytes : (space : ℕ) (es : List Entry) → length (bytes_of (take (fitting space es) es)) ≤ space
-unfolding fitting bytes_of
-fitting-bytes space [] = omega arith
-fitting-bytes space (e ∷ es) =
-    by_test (leb (length e.bytes) space)
-    (λ t. rw t (omega (
-      arith,
-      leb-true (length e.bytes) space t,
-      fitting-bytes (space - length e.bytes) es,
-      length-append e.bytes (bytes_of (take (fitting (space - length e.bytes) es) es)),
-    )))
-    (λ t. rw t (omega arith))
-
+-- just the entries that fit in a space fit in their own length
 fitting_own : (es : List Entry) → All (λ e. 0 < length e.bytes) es → (k : ℕ) → k ≤ length es → fitting (length (bytes_of (take k es))) es ≡ k
 unfolding fitting bytes_of
 fitting_own [] a k h = omega arith
@@ -90,98 +71,51 @@ fitting_own (e ∷ es) a (suc k) h =
 
 -- ---- a page of some entries, each of which fits
 
-module _ (es : List Entry) (limit n : ℕ) (old new : List ℕ) (room_for : 4 + longest es ≤ limit)
-    (length_is : n ≡ length (page_reply 0x55 es limit)) (lies : new ≡ laid (room limit) old (page_reply 0x55 es limit)) where
+module _ (es : List Entry) (limit : ℕ) (room_for : 4 + longest es ≤ limit) where
   abbrev k : ℕ
   k = fitting (limit - 4) es
+
+  abbrev page : List ℕ
+  page = page_reply 0x55 es limit
 
   each_fits : All (λ e. length e.bytes ≤ limit - 4) es
   each_fits = longest-all es (limit - 4) (omega arith)
 
-  page_length : n ≡ 4 + length (bytes_of (take k es))
+  page_length : length page ≡ 4 + length (bytes_of (take k es))
   unfolding page_reply reply
-  page_length = let e = rw (fits_first (limit - 4) es each_fits) at length_is in omega (arith, e)
+  page_length = rw (fits_first (limit - 4) es each_fits) (omega arith)
 
-  page_data : take (n - 4) (drop 4 new) ≡ bytes_of (take k es)
+  page_data : drop 4 page ≡ bytes_of (take k es)
   unfolding page_reply reply
-  page_data =
-      laid_rest (room limit) old _ new lies 4 n length_is (omega (arith, page_length))
-      ∙ rw (fits_first (limit - 4) es each_fits) refl
+  page_data = rw (fits_first (limit - 4) es each_fits) refl
 
-  page_status : get_or new 2 0 ≡ pick (eqb k (length es)) 0 6
+  page_status : get_or page 2 0 ≡ pick (eqb k (length es)) 0 6
   unfolding page_reply reply
-  page_status = laid-byte (room limit) old _ new lies 2 (omega (arith, length_is, page_length)) ∙ rw (fits_first (limit - 4) es each_fits) refl
+  page_status = rw (fits_first (limit - 4) es each_fits) refl
 
-  module _ (got end : ℕ) (out filled : List ℕ) (joins : filled ≡ put out got (take (n - 4) (drop 4 new))) (ends : end ≡ got + (n - 4)) where
+  module _ (positive : All (λ e. 0 < length e.bytes) es) (got : ℕ) (out filled : List ℕ) (v : Turn) (j : Joined page 4 got out v filled) where
     page_put : filled ≡ put out got (bytes_of (take k es))
-    page_put = joins ∙ ap (put out got) page_data
+    page_put = j.out_is ∙ ap (put out got) page_data
 
-    page_last : get_or new 2 0 ≡ 0 → Paged es limit got out (Last end) filled
-    page_last z =
+    ending : got + (length page - 4) ≡ got + length (bytes_of (take k es))
+    ending = omega (arith, page_length)
+
+    page_brings : Paged es limit got out v filled
+    page_brings =
         by_test (eqb k (length es))
-        (λ b. let all : take k es ≡ es = take_all k es (omega (arith, eqb-true k (length es) b)) in
-        record {
+        (λ b. let is : v ≡ Last (got + length (bytes_of (take k es))) = j.turn_is ∙ rw (page_status, b, ending) refl in
+        let all : take k es ≡ es = take_all k es (omega (arith, eqb-true k (length es) b)) in
+        rw is (record {
           is = (
-            omega (arith, page_length, ap (λ (l : List Entry). length (bytes_of l)) all),
+            ap (λ (l : List Entry). got + length (bytes_of l)) all,
             page_put ∙ ap (λ (l : List Entry). put out got (bytes_of l)) all,
             eqb-true k (length es) b,
           );
-        })
-        (λ b. let six : get_or new 2 0 ≡ 6 = page_status ∙ rw b refl in absurd (omega (arith, z, six)))
-
-    page_more : All (λ e. 0 < length e.bytes) es → get_or new 2 0 ≢ 0 → Paged es limit got out (More end) filled
-    page_more positive z =
-        by_test (eqb k (length es))
-        (λ b. absurd (z (page_status ∙ rw b refl)))
-        (λ b. let few : k < length es = omega (arith, fitting_le (limit - 4) es, eqb-false k (length es) b) in
+        }))
+        (λ b. let is : v ≡ More (got + length (bytes_of (take k es))) = j.turn_is ∙ rw (page_status, b, ending) refl in
+        let few : k < length es = omega (arith, fitting_le (limit - 4) es, eqb-false k (length es) b) in
         let bytes = bytes-some es positive k (fitting-some (limit - 4) es each_fits (omega arith)) (omega arith) in
-        record { is = (omega (arith, page_length), omega (arith, page_length, bytes), page_put, few) })
-
--- ---- one page that is granted
-
-module _ {t : Tables} (f : Flags) {m program attributes : List ℕ} {limit buffer scope start size : ℕ} {numbers : List ℕ} (got : ℕ)
-    {room_out : ℕ} {old new left : List ℕ}
-    (p : Taken (is_askable program attributes) t m limit buffer × Granted t program attributes scope numbers
-    × (4 + longest (due t scope numbers start) ≤ limit)
-    × (got + length (bytes_of (due t scope numbers start)) ≤ room_out) × (got ≤ 71302080))
-    (small : start < 4294967296) (r : Answers limit (answer t f m (list_request program attributes start) limit) old size new left) where
-  abbrev entries : List Entry
-  entries = due t scope numbers start
-
-  short : length program ≤ 255
-  short = (askable-short program attributes p.0.sendable).0
-
-  reply_is : (answer t f m (list_request program attributes start) limit).reply ≡ page_reply 0x55 entries limit
-  reply_is =
-      list_granted t f m program attributes start limit short small scope numbers p.1.scope_is p.1.numbers_are p.1.accepted
-
-  size_is : size ≡ length (page_reply 0x55 entries limit)
-  size_is = r.length_is ∙ ap (λ (l : List ℕ). length l) reply_is
-
-  pub lies : new ≡ laid (room limit) old (page_reply 0x55 entries limit)
-  lies = r.buffer_is ∙ ap (laid (room limit) old) reply_is
-
-  pub turn_inside : (4 ≤ size) × (size ≤ buffer) × (got + (size - 4) ≤ room_out) × (size ≤ 65535)
-  turn_inside =
-      let l = page_length entries limit size old new p.2 size_is lies in
-      let q = (proper_answer t f m (list_request program attributes start) limit).fits in (
-        omega (arith, l),
-        omega (arith, r.length_is, q, p.0.has_room),
-        omega (arith, l, p.3, bytes-front (fitting (limit - 4) entries) entries),
-        omega (arith, r.length_is, q, p.0.limit_fits),
-      )
-
-  pub turn_fits : got + length (take (size - 4) (drop 4 new)) ≤ room_out
-  turn_fits = omega (arith, length-take (size - 4) (drop 4 new), turn_inside)
-
-  module _ (end : ℕ) (out filled : List ℕ) (joins : filled ≡ put out got (take (size - 4) (drop 4 new))) (ends : end ≡ got + (size - 4)) where
-    pub turn_last : get_or new 2 0 ≡ 0 → Paged entries limit got out (Last end) filled
-    turn_last = page_last entries limit size old new p.2 size_is lies got end out filled joins ends
-
-    pub turn_more : get_or new 2 0 ≢ 0 → Paged entries limit got out (More end) filled
-    turn_more =
-        page_more entries limit size old new p.2 size_is lies got end out filled joins ends
-        (due-some t scope numbers start)
+        rw is (record { is = (refl, omega (arith, bytes), page_put, few) }))
 
 -- ---- the last page: one page more, and the last one
 
@@ -217,11 +151,6 @@ module _ {all left : List Entry} {limit got : ℕ} {start out : List ℕ} (j : J
   pub joins_fit : got + length (bytes_of left) ≤ length start
   joins_fit = omega (arith, j.got_is, ap (λ (l : List ℕ). length l) j.whole, length-append j.passed (bytes_of left))
 
-  -- T1: a scope has few symbols
-  pub joins-few : length all ≤ 1088 → 4 + longest all ≤ limit → limit ≤ 65535 → got ≤ 71302080
-  joins-few few h l =
-      omega (arith, bytes-few all (omega arith), j.got_is, ap (λ (l : List ℕ). length l) j.whole, length-append j.passed (bytes_of left))
-
   module _ {filled : List ℕ} {v : Turn} (p : Paged left limit got out v filled) where
     brought : (w : Turn) → v ≡ w → BringsPage left limit got out w filled
     brought w e = rw e at p.is
@@ -241,7 +170,7 @@ module _ {all left : List Entry} {limit got : ℕ} {start out : List ℕ} (j : J
         let b = brought (More n) e in
         let k = fitting (limit - 4) left in
         let s : size - 4 ≡ length (bytes_of (take k left)) = omega (arith, b.0) in
-        (rw (s, fitting_own left positive k (fitting_le (limit - 4) left)), omega (arith, b.0, fitting-bytes (limit - 4) left, j.room_for))
+        (rw (s, fitting_own left positive k (fitting_le (limit - 4) left)), omega (arith, b.0, fitting-fits (limit - 4) left, j.room_for))
 
     pub joins_last : (n : ℕ) → v ≡ Last n → Written 0 (bytes_of all) start n filled
     joins_last n e =
@@ -276,8 +205,8 @@ module _ {all left : List Entry} {limit got : ℕ} {start out : List ℕ} (j : J
         (lies : new ≡ laid (room limit) old (page_reply 0x55 left limit)) where
       page_over : KeptFrom (room limit) first new
       page_over =
-          let l = page_length left limit (length (page_reply 0x55 left limit)) [] _ j.room_for refl refl in
-          kept_laid (room limit) first old new kept _ lies (omega (arith, l, fitting-bytes (limit - 4) left, j.room_for)) (omega (arith, kept.1))
+          let l = page_length left limit j.room_for in
+          kept_laid (room limit) first old new kept _ lies (omega (arith, l, fitting-fits (limit - 4) left, j.room_for)) (omega (arith, kept.1))
 
       pub page_walked : (size : ℕ) (after : List ℕ) → size ≤ limit → KeptFrom size new after → KeptFrom (room limit) first after
       page_walked size after h k = kept_then (room limit) first new after page_over (kept_less size (room limit) new after (omega arith) k)
@@ -295,10 +224,35 @@ module _ (t : Tables) (scope : ℕ) (attributes : List ℕ) (start : ℕ) (liste
   pub starts_nowhere : s ≡ None → left ≡ []
   starts_nowhere q = rw q at at
 
--- a turn begins with the memory as it was and a reply buffer as long as it was
-pub turn_taken : {can_send : Bool} {t : Tables} {m : List ℕ} {limit buffer : ℕ} (memory : List ℕ) (b : ℕ)
-    → Taken can_send t m limit buffer → memory ≡ m → b ≡ buffer → Taken can_send t memory limit b
-turn_taken memory b a same e = rw (same, e) a
+-- ---- one page that is granted
+
+module _ {t : Tables} (f : Flags) {m program attributes : List ℕ} {limit buffer scope id got : ℕ} {numbers : List ℕ} {all : List Entry}
+    {start out : List ℕ} (a : Taken (is_askable program attributes) t m limit buffer) (g : Granted t program attributes scope numbers)
+    (j : Joins all (due t scope numbers id) limit got start out) (fits : length (bytes_of all) ≤ length start) (small : id < 4294967296)
+    {memory : List ℕ} (same : memory ≡ m) where
+  abbrev left : List Entry
+  left = due t scope numbers id
+
+  abbrev replied : List ℕ
+  replied = (answer t f memory (list_request program attributes id) limit).reply
+
+  reply_is : replied ≡ page_reply 0x55 left limit
+  reply_is =
+      list_granted t f memory program attributes id limit (askable-short program attributes a.sendable).0 small scope numbers g.scope_is
+      g.numbers_are g.accepted
+
+  pub page_holds : Holds replied 4 got (length start)
+  page_holds =
+      let l = page_length left limit j.room_for in
+      let few = bytes-front (fitting (limit - 4) left) left in
+      rw reply_is (omega (arith, l), omega (arith, l, few, joins_fit j fits))
+
+  pub page_turn : {filled new : List ℕ} {v : Turn} (old : List ℕ) → Joined replied 4 got out v filled → new ≡ laid (room limit) old replied
+      → Paged left limit got out v filled × (new ≡ laid (room limit) old (page_reply 0x55 left limit))
+  page_turn {filled} {new} {v} old joins lies = (
+    page_brings left limit j.room_for (due-some t scope numbers id) got out filled v (rw reply_is at joins),
+    lies ∙ ap (laid (room limit) old) reply_is,
+  )
 
 -- the tables in which it may be asked
 abbrev pub tables_asked : {can_send : Bool} {t : Tables} {m : List ℕ} {limit buffer : ℕ} → Taken can_send t m limit buffer → Tables

@@ -4,15 +4,13 @@ use mathlib.Core.Path.{◌≡◌, refl}
 use mathlib.Core.Bool.{true, false}
 use mathlib.Core.List.{List, [], ◌∷◌, ◌++◌}
 use Rattle.std.specs.Prelude.{Option, None, Some}
-use Prim.Native.Nat.{ℕ, ◌+◌, ◌*◌, ◌/◌, ◌%◌, ◌≤◌, ◌<◌}
+use Prim.Native.Nat.{ℕ, ◌+◌, ◌*◌, ◌/◌, ◌≤◌, ◌<◌}
 use native.Mathlib.Omega.{arith}
-use lib.Dec.{ltb, leb, eqb}
+use lib.Dec.{ltb}
 use lib.ListN.{length, drop, length-append}
-use borrow.Author.Tests.{leb-true, eqb-true}
 use Rattle.laws.specs.Put.{put}
 use Rattle.laws.proofs.Chain.{by_test, pick_all, clash}
 use Rattle.laws.proofs.Put.{put_then}
-use Rattle.laws.proofs.Tests.{both_true}
 use Rattle.definition.specs.Bytes.{le16, le32, part}
 use Rattle.definition.specs.Reply.{Answer, answered}
 use Rattle.definition.specs.Segment.{Segment, segments}
@@ -29,18 +27,9 @@ use Rattle.cip.specs.Writes.{Written}
 use Rattle.continued.specs.Point3.{read_request, Readable}
 use Rattle.continued.proofs.Point3.{exact_answer}
 use Rattle.whole.specs.Whole.{if_granted, chosen_by, chosen, is_sendable}
+use Rattle.whole.specs.Short.{sendable_words, request_length}
 
 -- ---- the bytes
-
-pub sendable_words : (path : List ℕ) → is_sendable path ≡ true → (length path % 2 ≡ 0) × (length path / 2 ≤ 255)
-sendable_words path e =
-    let b = both_true (eqb (length path % 2) 0) (leb (length path / 2) 255) e in
-    (eqb-true (length path % 2) 0 b.0, leb-true (length path / 2) 255 b.1)
-
-pub request-length : (path : List ℕ) (elements offset : ℕ) → length (read_request path elements offset) ≡ 8 + length path
-unfolding read_request
-request-length path elements offset =
-    omega (arith, length-append path (le16 elements), length-append (path ++ le16 elements) (le32 offset))
 
 pub request-put : (path : List ℕ) (elements offset words : ℕ) (old a b c d e : List ℕ) → 8 + length path ≤ length old → words ≡ length path / 2
     → a ≡ put old 0 (0x52 ∷ []) → b ≡ put a 1 (words ∷ []) → c ≡ put b 2 path
@@ -52,7 +41,7 @@ request-put path elements offset words old a b c d e fits w p q r s u =
     let three = put_then _ _ _ 0 _ _ _ two r refl (omega arith) in
     let four = put_then _ _ _ 0 _ _ _ three s (omega arith) (omega arith) in
     let five = put_then _ _ _ 0 _ _ _ four u (omega (arith, length-append path (le16 elements))) (omega arith) in
-    record { length_is = omega (arith, request-length path elements offset); buffer_is = rw w at five }
+    record { length_is = omega (arith, request_length path elements offset); buffer_is = rw w at five }
 
 -- ---- the answer
 

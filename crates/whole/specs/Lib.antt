@@ -3,3 +3,4 @@ pub mod Whole
 pub mod Parts
 pub mod Lists
 pub mod Turns
+pub mod Short

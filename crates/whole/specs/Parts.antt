@@ -15,8 +15,8 @@ use Rattle.reads.specs.Reading.{header_size}
 use Rattle.continued.specs.Point3.{read_request}
 use Rattle.whole.specs.declared.requests.Read.{Read}
 use Rattle.whole.specs.declared.sizes.Size.{Size}
-use Rattle.whole.specs.declared.joins.Turn.{Turn}
-use Rattle.whole.specs.declared.joins.Turn.TheVariants.{Last, More}
+use Rattle.whole.specs.declared.asked.Turn.{Turn}
+use Rattle.whole.specs.declared.asked.Turn.TheVariants.{Last, More}
 use Rattle.whole.specs.Asked.{Taken}
 use Rattle.whole.specs.Whole.{chosen, is_sendable, last_reply}
 

@@ -15,8 +15,8 @@ use Rattle.listing.specs.Numbers.{numbers_in}
 use Rattle.listing.specs.declared.numbers.Numbers.{Numbers}
 use Rattle.listing.specs.declared.pages.Page.{Page}
 use Rattle.whole.specs.declared.pages.Listing.{Listing}
-use Rattle.whole.specs.declared.joins.Turn.{Turn}
-use Rattle.whole.specs.declared.joins.Turn.TheVariants.{Last, More}
+use Rattle.whole.specs.declared.asked.Turn.{Turn}
+use Rattle.whole.specs.declared.asked.Turn.TheVariants.{Last, More}
 use Rattle.whole.specs.Asked.{Taken}
 use Rattle.whole.specs.Lists.{is_askable, scope_of, entries_of, list_request, longest}
 

@@ -12,18 +12,19 @@ use cip::replies::HEADER;
 use listing::numbers::Numbers;
 use listing::pages::{Page, Start};
 use logix::entry;
-use model::{Controller, Tables};
+use model::columns::CONTROLLER_SCOPE;
+use model::{Controller, Tables, lookup};
 
-/// The scope that a program's name means: 0 is the controller's, which no name means, and a program's is its position plus one.
+/// The scope that a program's name means; no name means the controller's.
 fn scope_of(t: &Tables, program: &[u8]) -> Option<u32>
     requires { length t.now.programs.now ≤ 65535 }
     ensures { result ≡ scope_of (tables_of t.now) program.now }
 {
     if program.is_empty() {
-        return Some(0);
+        return Some(CONTROLLER_SCOPE);
     }
     let k = listing::attributes::program_of(t, program)?;
-    Some(k as u32 + 1)
+    Some(lookup::program_scope(k))
 }
 
 /// The numbers of a list that a page accepts.

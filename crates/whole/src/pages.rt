@@ -6,10 +6,9 @@ ghost use Rattle.definition.specs.Page.{bytes_of, page_reply};
 ghost use Rattle.cip.specs.Writes.{Written};
 ghost use Rattle.model.specs.Tables.{tables_of};
 ghost use Rattle.whole.specs.Lists.{scope_path, list_request, is_askable, longest, last_page};
-ghost use Rattle.whole.specs.Turns.{ListTaken, ListGranted, due_on, Paged};
+ghost use Rattle.whole.specs.Turns.{ListTaken, ListGranted, due_on};
 
-use crate::asked::Asked;
-use crate::joins::Turn;
+use crate::asked::{Asked, Turn};
 use crate::walks;
 use cip::codes::SYMBOL_PAGE;
 use cip::replies::HEADER;
@@ -19,8 +18,8 @@ use model::Controller;
 /// A symbol segment.
 const SYMBOL: u8 = 0x91;
 
-/// 20 6B 26 00: the class of symbols, and the start of an instance segment of 32 bits.
-const SYMBOLS_FROM: u32 = 0x00266B20;
+/// The class of symbols, and the start of an instance segment of 32 bits.
+const SYMBOLS_FROM: [u8; 4] = [0x20, 0x6B, 0x26, 0x00];
 
 /// What is listed: the symbols of a program, or of the controller where the name is empty; of each the attributes of a list as a request
 /// brings it.
@@ -42,8 +41,9 @@ fn scope_size(program: &[u8]) -> usize
 }
 
 /// A program's name as a symbol segment; nothing for the controller's scope.
+#[tactic(auto, using(crate::proofs::Asking::size_named))]
 fn put_scope(message: &mut [u8], program: &[u8])
-    requires { (length program.now ≤ 255) × (260 ≤ length message.old) }
+    requires { (length program.now ≤ 255) × (2 + length (scope_path program.now) ≤ length message.old) }
     ensures { message.new ≡ put message.old 2 (scope_path program.now) }
 {
     if program.is_empty() {
@@ -52,10 +52,9 @@ fn put_scope(message: &mut [u8], program: &[u8])
     cip::put_u8(message, 2, SYMBOL);
     cip::put_u8(message, 3, program.len() as u8);
     cip::copy_into(message, 4, program);
-    if program.len() % 2 == 0 {
-        return;
+    if program.len() % 2 == 1 {
+        cip::put_u8(message, 4 + program.len(), 0);
     }
-    cip::put_u8(message, 4 + program.len(), 0);
 }
 
 impl<'a> Listing<'a> {
@@ -68,47 +67,25 @@ impl<'a> Listing<'a> {
 }
 
 impl<'a> Asked for Listing<'a> {
+    ghost use Rattle.whole.specs.Short.{short_list};
+
     ghost sendable = { λ listing. is_askable listing.program.now listing.attributes.now };
 
     ghost request = { λ listing id. list_request listing.program.now listing.attributes.now id };
 
+    ghost short = { λ listing id can_send. short_list listing.program.now listing.attributes.now id can_send };
+
+    #[tactic(auto, using(crate::specs::Short::lengths))]
     fn put(&self, message: &mut [u8], id: u32) -> usize {
         let n = scope_size(self.program);
         cip::put_u8(message, 0, SYMBOL_PAGE);
         cip::put_u8(message, 1, ((n + 8) / 2) as u8);
         put_scope(message, self.program);
-        cip::put_u32(message, 2 + n, SYMBOLS_FROM);
+        cip::copy_into(message, 2 + n, &SYMBOLS_FROM);
         cip::put_u32(message, 6 + n, id);
         cip::copy_into(message, 10 + n, self.attributes);
         10 + n + self.attributes.len()
     }
-}
-
-/// Asks for a page, and joins the entries that it brings.
-fn join_page(
-    c: &Controller,
-    memory: &mut [u8],
-    listing: &Listing,
-    page: &Page,
-    got: usize,
-    limit: usize,
-    buf: &mut [u8],
-    out: &mut [u8],
-) -> Turn
-    requires { let entries = due_on (tables_of c.now.tables) page.now in
-        ListTaken c.now memory.old listing.now limit (length buf.old) × ListGranted (tables_of c.now.tables) listing.now page.now
-        × (4 + longest entries ≤ limit) × (got + length (bytes_of entries) ≤ length out.old) × (got ≤ 71302080) }
-    ensures { let entries = due_on (tables_of c.now.tables) page.now in
-        Paged entries limit got out.old result out.new × (memory.new ≡ memory.old)
-        × (buf.new ≡ laid (room limit) buf.old (page_reply 0x55 entries limit)) }
-{
-    let size = listing.send(c, memory, page.start.id, limit, buf);
-    cip::copy_into(out, got, &buf[HEADER..size]);
-    let end = got + (size - HEADER);
-    if buf[2] == 0 {
-        return Turn::Last(end);
-    }
-    Turn::More(end)
 }
 
 /// Asks for pages until nothing more is due; returns how many bytes are joined. The last reply stays in `buf`.
@@ -134,7 +111,7 @@ pub fn join_pages(
     loop {
         let start = Start { scope, id };
         let page = Page { start, numbers };
-        let end = match join_page(c, memory, listing, &page, got, limit, buf, out) {
+        let end = match listing.join(c, memory, id, HEADER, got, limit, buf, out) {
             Turn::Last(end) => return end,
             Turn::More(end) => end,
         };

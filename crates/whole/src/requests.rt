@@ -25,10 +25,15 @@ impl<'a> Read<'a> {
 }
 
 impl<'a> Asked for Read<'a> {
+    ghost use Rattle.whole.specs.Short.{short_read};
+
     ghost sendable = { λ read. is_sendable read.path.now };
 
     ghost request = { λ read offset. read_request read.path.now read.elements offset };
 
+    ghost short = { λ read offset can_send. short_read read.path.now read.elements offset can_send };
+
+    #[tactic(auto, using(crate::specs::Short::request_length))]
     fn put(&self, message: &mut [u8], offset: u32) -> usize {
         let size = self.path.len();
         cip::put_u8(message, 0, READ_FRAGMENTED);

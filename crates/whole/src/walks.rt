@@ -12,7 +12,7 @@ ghost use Rattle.whole.specs.Turns.{due_on, Measured, front, next_id, start_by, 
 use cip::replies::HEADER;
 use listing::pages::{Page, Step, Walk};
 use model::Tables;
-use model::least::Next;
+use model::least::{Bound, Next};
 
 /// The bytes of all entries from a page on, each of which a page can bring; none where one is too long for that. The buffer is used for one
 /// entry after the other.
@@ -59,8 +59,7 @@ fn next_bound(t: &Tables, page: &Page, size: usize, buf: &mut [u8]) -> u64
     loop {
         match page.step(t, walk, size, buf) {
             Step::More(next) => walk = next,
-            Step::Full => return walk.bound,
-            Step::Done => return walk.bound,
+            Step::Full | Step::Done => return walk.bound,
         }
     }
 }
@@ -74,11 +73,11 @@ fn start_below(bound: u64, id: u32) -> u32
 }
 
 /// The start ID of a page from a bound on that something is due from.
-fn start_from(t: &Tables, scope: u32, bound: u64) -> Option<u32>
-    ensures { result ≡ start_by bound (next_in t.now.tags.now t.now.others.now scope bound) }
+fn start_from(t: &Tables, from: Bound) -> Option<u32>
+    ensures { result ≡ start_by from.id (next_in t.now.tags.now t.now.others.now from.scope from.id) }
 {
-    match t.next_symbol(scope, bound)? {
-        Next::Tag(next) | Next::Other(next) => Some(start_below(bound, next.id)),
+    match t.next_symbol(from)? {
+        Next::Tag(next) | Next::Other(next) => Some(start_below(from.id, next.id)),
     }
 }
 
@@ -90,6 +89,9 @@ pub fn next_start(t: &Tables, page: &Page, size: usize, buf: &mut [u8]) -> Optio
         (behind size (due_on t page.now)) result) }
     ensures kept { KeptFrom size buf.old buf.new }
 {
-    let bound = next_bound(t, page, size, buf);
-    start_from(t, page.start.scope, bound)
+    let from = Bound {
+        scope: page.start.scope,
+        id: next_bound(t, page, size, buf),
+    };
+    start_from(t, from)
 }

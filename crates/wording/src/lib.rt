@@ -84,10 +84,7 @@ impl<'a> fmt::Display for Line<'a> {
 
 /// One line on a breach of these tables, to a stream.
 pub fn say(to: &impl Print, breach: Breach, tables: &Tables) -> io::Result<()> {
-    let line = Line {
-        breach,
-        tables: &*tables,
-    };
+    let line = Line { breach, tables };
     println!(to; "{line}")
 }
 

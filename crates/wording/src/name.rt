@@ -1,5 +1,5 @@
 // The name of a row: its bytes in their store, and how it is shown.
-ghost use Rattle.std.specs.Prelude.{◌+◌, ◌<◌};
+ghost use Rattle.std.specs.Prelude.{◌≡◌, ◌+◌, ◌<◌, take, drop, get_or};
 
 use model::Tables;
 use model::columns::{
@@ -41,8 +41,15 @@ impl<'a> fmt::Display for Name<'a> {
     }
 }
 
-/// A row's name, of which two words say where it starts and how long it is. None where it is empty, and none where it does not stand
-/// in its store, of which only a piece is there.
+/// A row's name, as far as it stands in its store: two words of the row say where it starts and how long it is.
+pub fn name_of<'a, const N: usize>(row: &[u32; N], start: usize, store: &'a [u8]) -> Name<'a>
+    requires { start + 1 < N }
+    ensures { result.0.now ≡ take (get_or row.now (start + 1) 0) (drop (get_or row.now start 0) store.now) }
+{
+    Name(part_of(store, row[start], row[start + 1]))
+}
+
+/// The name of a row that is there. None where it is empty, and none where it does not stand in its store, of which only a piece is there.
 fn name_in<'a, const N: usize>(
     rows: &[[u32; N]],
     row: usize,
@@ -51,13 +58,12 @@ fn name_in<'a, const N: usize>(
 ) -> Option<Name<'a>>
     requires { start + 1 < N }
 {
-    let words = rows.get(row)?;
-    let length = words[start + 1];
-    let name = part_of(store, words[start], length);
-    if name.is_empty() || name.len() < length as usize {
+    let row = rows.get(row)?;
+    let name = name_of(row, start, store);
+    if name.0.is_empty() || name.0.len() < row[start + 1] as usize {
         return None;
     }
-    Some(Name(name))
+    Some(name)
 }
 
 /// The name of a row, if it has one. The names of tags have a store of their own.

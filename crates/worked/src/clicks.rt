@@ -1,9 +1,10 @@
 // P13: masked writes in a row to the plant of P11's page, one by one and joined into one request.
-ghost use Rattle.std.specs.Prelude.{◌+◌, ◌*◌, ◌≤◌, length};
+ghost use Rattle.std.specs.Prelude.{◌-◌, ◌*◌, ◌≤◌, length};
 
 use crate::{asked, plant};
 use input::bytes::Hex;
 use std::io;
+use std::ops::Range;
 
 /// Sends a message and shows it with its reply.
 fn send(to: &impl Print, memory: &mut [u8], request: &[u8]) -> io::Result<()> {
@@ -18,10 +19,10 @@ fn show(to: &impl Print, word: &str, bytes: &[u8]) -> io::Result<()> {
 }
 
 /// The bytes of a target.
-fn left(to: &impl Print, memory: &[u8], start: usize, size: usize) -> io::Result<()>
-    requires { start + size ≤ length memory.now }
+fn left(to: &impl Print, memory: &[u8], target: Range<usize>) -> io::Result<()>
+    requires { (target.start ≤ target.end) × (target.end ≤ length memory.now) }
 {
-    show(to, "left", &memory[start..start + size])
+    show(to, "left", &memory[target])
 }
 
 /// The first request with the masks of the second joined to its own, by `join_at`; the masks are the last bytes of both.
@@ -37,19 +38,22 @@ fn joined(first: &[u8], next: &[u8], size: usize) -> [u8; 40]
     request
 }
 
-/// Two masked writes of so many bytes to a target that starts at a byte, one behind the other, and then one with their masks joined.
-fn row(to: &impl Print, first: &[u8], next: &[u8], start: usize, size: usize) -> io::Result<()>
-    requires { (start + size ≤ 190) × (2 * size ≤ length first.now) × (2 * size ≤ length next.now) × (length first.now ≤ 40) }
+/// Two masked writes of all bytes of a target, one behind the other, and then one with their masks joined.
+fn row(to: &impl Print, first: &[u8], next: &[u8], target: Range<usize>) -> io::Result<()>
+    requires inside { (target.start ≤ target.end) × (target.end ≤ 190) }
+    requires masked { (2 * (target.end - target.start) ≤ length first.now) × (2 * (target.end - target.start) ≤ length next.now) }
+    requires fits { length first.now ≤ 40 }
 {
+    let Range { start, end } = target;
     let mut clicked = plant::MEMORY;
     send(to, &mut clicked, first)?;
     send(to, &mut clicked, next)?;
-    left(to, &clicked, start, size)?;
-    let request = joined(first, next, size);
+    left(to, &clicked, start..end)?;
+    let request = joined(first, next, end - start);
     let n = first.len();
     let mut single = plant::MEMORY;
     send(to, &mut single, &request[..n])?;
-    left(to, &single, start, size)?;
+    left(to, &single, start..end)?;
     if clicked == single {
         println!(to; "the same memory")
     } else {
@@ -63,36 +67,31 @@ fn rows_of_count(to: &impl Print) -> io::Result<()> {
         to,
         b"\x4E\x04\x91\x05Count\x00\x04\x00\x01\x00\x00\x00\x0F\x00\x00\x00",
         b"\x4E\x04\x91\x05Count\x00\x04\x00\xF0\x00\x00\x00\xFF\x00\x00\x00",
-        0,
-        4,
+        0..4,
     )?;
     row(
         to,
         b"\x4E\x04\x91\x05Count\x00\x04\x00\x00\x00\x00\x00\x00\x00\x00\x00",
         b"\x4E\x04\x91\x05Count\x00\x04\x00\x80\x00\x00\x01\xFF\xFF\xFF\xFF",
-        0,
-        4,
+        0..4,
     )?;
     row(
         to,
         b"\x4E\x04\x91\x05Count\x00\x04\x00\xFF\xFF\xFF\xFF\xFF\xFF\xFF\xFF",
         b"\x4E\x04\x91\x05Count\x00\x04\x00\x00\x00\x00\x00\x00\xFF\x00\xFF",
-        0,
-        4,
+        0..4,
     )?;
     row(
         to,
         b"\x4E\x04\x91\x05Count\x00\x04\x00\x00\x00\x00\x00\xFF\xFF\xFF\xFF",
         b"\x4E\x04\x91\x05Count\x00\x04\x00\x00\x00\x00\x00\xFF\xFF\xFF\xFF",
-        0,
-        4,
+        0..4,
     )?;
     row(
         to,
         b"\x4E\x04\x91\x05Count\x00\x04\x00\x04\x00\x00\x00\xFB\xFF\xFF\xFF",
         b"\x4E\x02\x20\x6B\x24\x01\x04\x00\x05\x00\x00\x00\xFE\xFF\xFF\xFF",
-        0,
-        4,
+        0..4,
     )
 }
 
@@ -102,22 +101,19 @@ fn rows_of_others(to: &impl Print) -> io::Result<()> {
         to,
         b"\x4E\x03\x91\x04Rows\x04\x00\x10\x20\x00\x00\xF0\xFF\xFF\xFF",
         b"\x4E\x04\x91\x04Rows\x28\x00\x04\x00\x00\x00\x00\x80\xFF\x0F\xFF\xFF",
-        4,
-        4,
+        4..8,
     )?;
     row(
         to,
         b"\x4E\x03\x91\x04Grid\x02\x00\x00\x01\xF0\xFF",
         b"\x4E\x03\x91\x04Grid\x02\x00\x0F\x00\x3F\xFF",
-        48,
-        2,
+        48..50,
     )?;
     row(
         to,
         b"\x4E\x0A\x91\x0CProgram:Main\x91\x04Step\x02\x00\x08\x00\xFF\xFF",
         b"\x4E\x0A\x91\x0CPROGRAM:main\x91\x04STEP\x02\x00\x00\x00\xF8\xFF",
-        188,
-        2,
+        188..190,
     )
 }
 
@@ -145,7 +141,7 @@ pub fn no_rows(to: &impl Print) -> io::Result<()> {
         &mut memory,
         b"\x4E\x04\x91\x05Count\x00\x04\x00\xF0\x00\x00\x00\xFF\x00\x00\x00",
     )?;
-    left(to, &memory, 0, 4)?;
+    left(to, &memory, 0..4)?;
     let mut shorter = plant::MEMORY;
     send(
         to,
@@ -157,7 +153,7 @@ pub fn no_rows(to: &impl Print) -> io::Result<()> {
         &mut shorter,
         b"\x4E\x04\x91\x05Count\x00\x04\x00\xF0\x00\x00\x00\xFF\x00\x00",
     )?;
-    left(to, &shorter, 0, 4)
+    left(to, &shorter, 0..4)
 }
 
 /// Two pairs of masks of four bytes joined.

@@ -1,13 +1,6 @@
 // The plant of P11's page: more kinds of tags than the pallet bench has.
 use logix::entry::Refusal;
-use model::{Controller, Flags, Tables};
-
-const FLAGS: Flags = Flags {
-    multi_service: true,
-    instance_ids: true,
-    aoi_locals_refused: false,
-    micro800: false,
-};
+use model::{Controller, Tables};
 
 /// `S0` with `Run`; `S1`, an AOI, with `Cells`, `Speed` and the local `Note`.
 const STRUCTURES: [[u32; 10]; 2] = [
@@ -77,7 +70,7 @@ pub fn message(
             tag_names: &TAG_NAMES,
             templates: &TEMPLATES,
         },
-        flags: FLAGS,
+        flags: pallet::FLAGS,
     };
     logix::entry::message(&c, memory, request, limit, buf)
 }

@@ -40,6 +40,7 @@ pub fn masked_write(memory: &mut [u8], g: Target, body: &[u8]) -> Result<(), Sta
     requires { g.start + atomic_size g.ty ≤ length memory.old }
     ensures { Stores (masked_stored memory.old (target_of g []) body.now) memory.old result memory.new }
 {
+    // a length test: over `get(..2)` the proof needs one law more, that the first word of these two bytes is the body's
     if body.len() < 2 {
         return Err(Status::TooShort);
     }

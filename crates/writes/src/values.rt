@@ -2,7 +2,7 @@
 ghost use Rattle.std.specs.Prelude.{◌≡◌, [], ◌+◌, ◌≤◌, length};
 ghost use Rattle.definition.specs.Write.{offset_size, type_size, type_matches, write_part, write_value, write_stored};
 ghost use Rattle.model.specs.Tables.{target_of, Aimed};
-ghost use Rattle.writes.specs.Storing.{Stores, fields_as, fields_in, fields_found, write_offset};
+ghost use Rattle.writes.specs.Storing.{Stores, fields_as, fields_in, fields_found, write_offset, service_of, BringsOffset};
 
 use cip::Status;
 use cip::codes::{STRUCTURE_CODE, WRITE_FRAGMENTED};
@@ -10,13 +10,15 @@ use model::columns::{NO_BIT, STRUCTURE_HANDLE};
 use model::types::{FIRST_STRUCTURE, structure_word};
 use model::{Tables, Target};
 
-/// A write's fields: a type and the handle of a structure's, a count of elements, an offset, and the value behind them.
+/// A write's fields: a type and the handle of a structure's, a count of elements, an offset where the service brings one, and the value behind
+/// them.
 #[derive(Clone, Copy)]
 pub struct Fields<'a> {
     pub ty: u32,
+    // the word behind the type, whatever the type is: so the definition's fields have it, which says of it only where a structure's value is meant
     pub handle: u32,
     pub elements: usize,
-    pub offset: usize,
+    pub offset: Option<usize>,
     pub value: &'a [u8],
 }
 
@@ -38,20 +40,21 @@ fn offset_size(service: u8) -> usize
     if service == WRITE_FRAGMENTED { 4 } else { 0 }
 }
 
-/// A write's offset, 0 where it brings none.
-fn offset_at(service: u8, body: &[u8], at: usize) -> usize
+/// A write's offset, where it brings one.
+fn offset_at(service: u8, body: &[u8], at: usize) -> Option<usize>
     requires { at + offset_size service ≤ length body.now }
     ensures { result ≡ write_offset service body.now at }
 {
-    if service == WRITE_FRAGMENTED {
-        return cip::u32_at(body, at) as usize;
+    if service != WRITE_FRAGMENTED {
+        return None;
     }
-    0
+    Some(cip::u32_at(body, at) as usize)
 }
 
 /// A write's fields, unless some of them are missing.
 fn fields_of(service: u8, body: &[u8]) -> Option<Fields<'_>>
-    ensures { fields_found result ≡ fields_in service body.now }
+    ensures fields { fields_found result ≡ fields_in service body.now }
+    ensures offset { BringsOffset service result }
 {
     if body.len() < 2 {
         return None;
@@ -78,49 +81,33 @@ fn type_matches(t: &Tables, g: Target, w: &Fields) -> bool
     w.ty == STRUCTURE_CODE && w.handle == structure_word(t.structures, g.ty, STRUCTURE_HANDLE)
 }
 
-/// Stores the value: 0x4D all of it, 0x53 a part of it from the offset.
+/// Stores the value: without an offset all of it, else a part of it from the offset.
 #[tactic(auto, using(crate::proofs::Storing::stores), unfolding(definition::specs::Write::write_part))]
-fn write_part(
-    memory: &mut [u8],
-    service: u8,
-    g: Target,
-    w: &Fields,
-    total: usize,
-) -> Result<(), Status>
+fn write_part(memory: &mut [u8], g: Target, w: &Fields, total: usize) -> Result<(), Status>
     requires { g.start + total ≤ length memory.old }
-    ensures { Stores (write_part service (target_of g []) (fields_as w.now) total) memory.old result memory.new }
+    ensures { Stores (write_part (service_of w.now.offset) (target_of g []) (fields_as w.now) total) memory.old result memory.new }
 {
     let size = w.value.len();
-    if service == WRITE_FRAGMENTED {
-        if total <= w.offset {
-            return Err(Status::BeyondEnd);
+    match w.offset {
+        Some(offset) if total <= offset => Err(Status::BeyondEnd),
+        Some(offset) if total < offset + size => Err(Status::TooLong),
+        Some(offset) => {
+            cip::copy_into(memory, g.start + offset, w.value);
+            Ok(())
         }
-        if total < w.offset + size {
-            return Err(Status::TooLong);
+        None if size < total => Err(Status::TooShort),
+        None if total < size => Err(Status::TooLong),
+        None => {
+            cip::copy_into(memory, g.start, w.value);
+            Ok(())
         }
-        cip::copy_into(memory, g.start + w.offset, w.value);
-        return Ok(());
     }
-    if size < total {
-        return Err(Status::TooShort);
-    }
-    if total < size {
-        return Err(Status::TooLong);
-    }
-    cip::copy_into(memory, g.start, w.value);
-    Ok(())
 }
 
 #[tactic(auto, using(crate::proofs::Storing::stores), unfolding(definition::specs::Write::write_value))]
-fn write_value(
-    t: &Tables,
-    memory: &mut [u8],
-    service: u8,
-    g: Target,
-    w: &Fields,
-) -> Result<(), Status>
+fn write_value(t: &Tables, memory: &mut [u8], g: Target, w: &Fields) -> Result<(), Status>
     requires { Aimed t.now.structures.now (length memory.old) g }
-    ensures { Stores (write_value t.now.structures.now service (target_of g []) (fields_as w.now)) memory.old
+    ensures { Stores (write_value t.now.structures.now (service_of w.now.offset) (target_of g []) (fields_as w.now)) memory.old
         result memory.new }
 {
     if !type_matches(t, g, w) {
@@ -132,7 +119,7 @@ fn write_value(
     if g.count < w.elements {
         return Err(Status::BeyondEnd);
     }
-    write_part(memory, service, g, w, w.elements * g.size)
+    write_part(memory, g, w, w.elements * g.size)
 }
 
 /// A write to a resolved target; an error says why nothing was stored.
@@ -151,5 +138,5 @@ pub fn write(
     if g.bit != NO_BIT {
         return crate::bits::write_bit(memory, g, &w);
     }
-    write_value(t, memory, service, g, &w)
+    write_value(t, memory, g, &w)
 }

@@ -1,11 +1,11 @@
 -- `logix::dispatch`, `multi_service` and `part` meet their contracts: one proof for the cycle of calls. Assumes nothing.
-use Rattle.std.proofs.Common.{rules, refl, sym, ap, length, arith}
+use Rattle.std.proofs.Common.{rules, refl, arith}
 use Rattle.std.proofs.lemmas.Bool.{not_from_false, not_from_true}
-use lib.Seq.{length-take-le}
 use Rattle.logix.proofs.Going.{going_start, going_more, going_end}
 use Rattle.logix.proofs.Offsets.{has_parts}
+use Rattle.logix.proofs.Placing.{tail_byte}
 use Rattle.logix.proofs.Dispatching.{body-shorter, answer-malformed, answer-envelope, answer-plain}
-use Rattle.logix.proofs.Dispatching.{part_in_place, part_some, part_fits, part_by_scratch, tail-room, part_declined}
+use Rattle.logix.proofs.Dispatching.{part_in_place, in_scratch, part_by_scratch, part_declined}
 use Rattle.logix.proofs.Dispatching.{envelope_off, envelope-short, envelope_runs}
 use Rattle.logix.proofs.+dispatch_multi_service_part.Goals as goal
 
@@ -54,23 +54,21 @@ part-returns-then-first_of-eq-ENVELOPE t c =
 
 pub part-returns-then-budget-ge8 : goal.part-returns-then-budget-ge8
 part-returns-then-budget-ge8 t c =
-    part_in_place _ _ _ _ _ _ c.first_of.ensures (search rules) _ _ _ _ _ _ c.if-budget-ge8.true c.requires.budget
-    c.requires.room c.dispatch-len.ensures
+    rw (c.is_success.ensures, tail_byte) (part_in_place _ _ _ _ _ _ c.first_of.ensures (search rules) _ _ _ _ _ _ c.if-budget-ge8.true
+    c.requires.budget c.requires.room c.dispatch-len.ensures)
 
 pub part-slice_bounds-scratch-end : goal.part-slice_bounds-scratch-end
 part-slice_bounds-scratch-end t c =
-    part_fits _ _ _ _ _ _ c.first_of.ensures (search rules) _ _ _ _ c.if-budget-ge8.false refl c.dispatch-n.ensures c.dispatch-n.auto.buf
+    (in_scratch _ _ _ _ _ _ c.first_of.ensures (search rules) _ _ _ _ c.if-budget-ge8.false refl c.dispatch-n.ensures c.dispatch-n.auto.buf).0
 
 pub part-slice_bounds-place-end : goal.part-slice_bounds-place-end
 part-slice_bounds-place-end t c =
-    sym (length-take-le _ _ (part_fits _ _ _ _ _ _ c.first_of.ensures (search rules) _ _ _ _ c.if-budget-ge8.false refl c.dispatch-n.ensures
-    c.dispatch-n.auto.buf))
+    (in_scratch _ _ _ _ _ _ c.first_of.ensures (search rules) _ _ _ _ c.if-budget-ge8.false refl c.dispatch-n.ensures c.dispatch-n.auto.buf).1
 
 pub part-place-requires : goal.part-place-requires
 part-place-requires t c =
-    let fits = part_fits _ _ _ _ _ _ c.first_of.ensures (search rules) _ _ _ _ c.if-budget-ge8.false refl c.dispatch-n.ensures c.dispatch-n.auto.buf in
-    let some = part_some _ _ _ _ _ _ c.first_of.ensures (search rules) _ _ _ _ c.if-budget-ge8.false refl c.dispatch-n.ensures in
-    (omega (arith, some, length-take-le _ _ fits), c.requires.room)
+    let s = in_scratch _ _ _ _ _ _ c.first_of.ensures (search rules) _ _ _ _ c.if-budget-ge8.false refl c.dispatch-n.ensures c.dispatch-n.auto.buf in
+    (s.2, c.requires.room)
 
 pub part-returns : goal.part-returns
 part-returns t c =

@@ -4,7 +4,7 @@ use native.Mathlib.Omega.{arith}
 use native.Mathlib.Nat.{add-sub_cancel_left}
 use Prim.Native.Nat.{◌+◌, ◌*◌}
 use lib.ListN.{length}
-use Rattle.laws.proofs.Parts.{to_end}
+use Rattle.std.proofs.lemmas.List.{take_rest}
 use Rattle.path.proofs.Requests.{request-short, request-cut, request-bad, request-is, path_decodes}
 use Rattle.path.proofs.request_of.Goals as goal
 
@@ -33,7 +33,7 @@ returns c =
     let is = rw add-sub_cancel_left at found.2 in
     let size : length c.in_ok-path.path.now ≡ 2 * c.from.result = omega (arith, found.3) in
     record {
-      is = request-is _ _ words found.1 _ is _ _ (c.in_ok-first.ensures.item.3.1 0) (rw size (to_end c.args.message.now (2 + 2 * c.from.result)));
+      is = request-is _ _ words found.1 _ is _ _ (c.in_ok-first.ensures.item.3.1 0) (rw size (take_rest c.args.message.now (2 + 2 * c.from.result)));
       path_is = rw (← words) is;
       decodes = path_decodes _ _ c.in_ok-count_segments.ensures;
     }

@@ -1,5 +1,5 @@
 -- An object's own service comes first, as in the definition; whichever it is, its function lays the definition's answer.
-use mathlib.Core.Path.{sym, ap, ◌∙◌}
+use mathlib.Core.Path.{ap, ◌∙◌}
 use Rattle.std.specs.Prelude.{Some}
 use Rattle.listing.proofs.Sent.{in_store}
 use Rattle.services.proofs.Choosing.{plain-symbols, plain-structures, plain_template, plain_by}

@@ -1,6 +1,7 @@
 -- The definition's tests, as far as there are bytes for them: a request too short for its path and size is no masked write.
+use mathlib.Core.Path.{◌∙◌}
 use native.Mathlib.Omega.{arith}
-use Rattle.input.proofs.Joining.{cut_short, other-service, other_length_lem, whole_write}
+use Rattle.input.proofs.Joining.{cut_short, other-service, whole_write}
 use Rattle.input.proofs.clicks.masks_at.Goals as goal
 
 pub returns-in_default-clause-found : goal.returns-in_default-clause-found
@@ -12,10 +13,7 @@ returns-then-service-ne-WRITE_MASKED-clause-found c = other-service _ c.if-servi
 pub returns-then-s-at-clause-found : goal.returns-then-s-at-clause-found
 returns-then-s-at-clause-found c = cut_short c.args.s.now (omega (arith, c.if-s-at.true, c.from.ensures))
 
-pub returns-then-s-at-2-clause-found : goal.returns-then-s-at-2-clause-found
-returns-then-s-at-2-clause-found c =
-    whole_write c.args.s.now _ _ _ c.from.ensures c.u16_at.ensures c.from-size.ensures c.if-service-ne-WRITE_MASKED.false c.if-s-at-2.true
-
-pub returns-else-s-at-2-clause-found : goal.returns-else-s-at-2-clause-found
-returns-else-s-at-2-clause-found c =
-    other_length_lem c.args.s.now _ _ _ c.from.ensures c.u16_at.ensures c.from-size.ensures c.if-s-at-2.false
+pub returns-clause-found : goal.returns-clause-found
+returns-clause-found c =
+    c.then_some.ensures
+    ∙ whole_write c.args.s.now _ _ _ c.from.ensures c.u16_at.ensures c.from-size.ensures c.if-service-ne-WRITE_MASKED.false

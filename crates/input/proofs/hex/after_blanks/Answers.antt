@@ -4,8 +4,8 @@ use mathlib.Core.Path.{ap, ◌∙◌}
 use mathlib.Core.Bool.{not}
 use Prim.Native.Nat.{ℕ}
 use lib.ListN.{drop}
+use Rattle.std.proofs.lemmas.List.{take_rest}
 use Rattle.laws.proofs.Chains.{position_slice}
-use Rattle.laws.proofs.Parts.{to_end}
 use Rattle.input.specs.Lines.{is_blank}
 use Rattle.input.proofs.Text.{place_is, place_or_end}
 use Rattle.input.proofs.Parsing.{blanks_end}
@@ -17,4 +17,4 @@ returns c =
     let stops = λ (x : ℕ). not (is_blank x) in
     let place = position_slice stops text c.position-blanks.ensures.ran (cc) (λ x b q k. search (rules, tests)) in
     let end = c.unwrap_or.ensures ∙ place_or_end stops text _ (place_is stops text _ place) in
-    to_end text _ ∙ ap (λ (k : ℕ). drop k text) end ∙ blanks_end text
+    take_rest text _ ∙ ap (λ (k : ℕ). drop k text) end ∙ blanks_end text

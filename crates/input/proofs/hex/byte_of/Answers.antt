@@ -2,7 +2,7 @@
 use mathlib.Core.Path.{sym, ◌∙◌}
 use native.Mathlib.Omega.{arith}
 use Rattle.std.proofs.lemmas.Result.{err_from_is_err_and}
-use Rattle.input.proofs.Digits.{digit_small, no_high, found, no_second, as_second, no_low, whole_byte}
+use Rattle.input.proofs.Digits.{small_digits, no_high, no_second, as_second, no_low, whole_byte}
 use Rattle.input.proofs.hex.byte_of.Goals as goal
 
 pub returns-in_err-h : goal.returns-in_err-h
@@ -23,21 +23,15 @@ returns-in_err-l c =
 
 pub overflow_mul-result : goal.overflow_mul-result
 overflow_mul-result c =
-    let h = digit_small c.args.high _ (found c.args.high c.args.low _ c.digit.ensures _ c.in_ok-h.ensures.value) in
-    let l = digit_small c.args.low _ (found c.args.low c.args.high _ c.digit-2.ensures _ c.in_ok-l.ensures.value) in
-    omega arith
+    omega (arith, small_digits _ _ _ c.digit.ensures _ c.digit-2.ensures _ _ c.in_ok-h.ensures.value c.in_ok-l.ensures.value)
 
 pub overflow_add-result : goal.overflow_add-result
 overflow_add-result c =
-    let h = digit_small c.args.high _ (found c.args.high c.args.low _ c.digit.ensures _ c.in_ok-h.ensures.value) in
-    let l = digit_small c.args.low _ (found c.args.low c.args.high _ c.digit-2.ensures _ c.in_ok-l.ensures.value) in
-    omega arith
+    omega (arith, small_digits _ _ _ c.digit.ensures _ c.digit-2.ensures _ _ c.in_ok-h.ensures.value c.in_ok-l.ensures.value)
 
 pub overflow_cast-result : goal.overflow_cast-result
 overflow_cast-result c =
-    let h = digit_small c.args.high _ (found c.args.high c.args.low _ c.digit.ensures _ c.in_ok-h.ensures.value) in
-    let l = digit_small c.args.low _ (found c.args.low c.args.high _ c.digit-2.ensures _ c.in_ok-l.ensures.value) in
-    omega arith
+    omega (arith, small_digits _ _ _ c.digit.ensures _ c.digit-2.ensures _ _ c.in_ok-h.ensures.value c.in_ok-l.ensures.value)
 
 pub returns : goal.returns
 returns c =

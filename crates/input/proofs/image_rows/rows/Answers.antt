@@ -1,6 +1,6 @@
 -- Each turn adds the next row behind those that are there.
 use native.Mathlib.Omega.{arith}
-use Rattle.input.proofs.Rows.{rows_start, one_row, all_rows, room_for}
+use Rattle.input.proofs.Rows.{rows_start, one_row, room_for}
 use Rattle.input.proofs.image_rows.rows.Goals as goal
 
 pub loop-i-init : goal.loop-i-init

@@ -17,22 +17,16 @@ returns-in_err-program c =
     let first = found_at _ _ _ _ _ c.in_ok-first.ensures.is c.in-Symbol.is in
     rw c.from_residual-in_err-program.ensures (named-unknown (tables_of c.args.t.now) _ _ _ first c.in_err-program.ensures)
 
-pub overflow_cast-program : goal.overflow_cast-program
-overflow_cast-program c =
+pub program_scope-requires : goal.program_scope-requires
+program_scope-requires c =
     let h = program_inside (tables_of c.args.t.now) _ _ c.in_ok-program.ensures in
-    let k = c.requires.1 in
-    search rules
-
-pub overflow_add-program : goal.overflow_add-program
-overflow_add-program c =
-    let h = program_inside (tables_of c.args.t.now) _ _ c.in_ok-program.ensures in
-    let k = c.requires.1 in
+    let k = c.requires in
     search rules
 
 pub start_in-requires-2 : goal.start_in-requires-2
-start_in-requires-2 c = behind_name (tables_of c.args.t.now) _ _ _ (found_at _ _ _ _ _ c.in_ok-first.ensures.is c.in-Symbol.is) c.requires.0
+start_in-requires-2 c = behind_name (tables_of c.args.t.now) _ _ _ (found_at _ _ _ _ _ c.in_ok-first.ensures.is c.in-Symbol.is) c.args.q.now.decodes
 
 pub returns : goal.returns
 returns c =
     let first = found_at _ _ _ _ _ c.in_ok-first.ensures.is c.in-Symbol.is in
-    named_known (tables_of c.args.t.now) _ _ _ first _ _ c.in_ok-program.ensures (rw add-one at c.start_in-2.ensures)
+    named_known (tables_of c.args.t.now) _ _ _ first _ _ c.in_ok-program.ensures (rw (c.program_scope.ensures, add-one) at c.start_in-2.ensures)

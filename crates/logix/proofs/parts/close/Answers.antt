@@ -1,5 +1,5 @@
 -- Past the limit the refusal is laid; else header and count are put at the front, and zeros from the parts' end on.
-use Rattle.logix.proofs.Placing.{closed, closed_late}
+use Rattle.logix.proofs.Placing.{closed}
 use Rattle.logix.proofs.parts.close.Goals as goal
 
 pub returns : goal.returns

@@ -1,22 +1,21 @@
--- The best so far is the fold over the rows from a place on; at 0 it is the fold over all.
-use Rattle.std.specs.Prelude.{refl, None, [], ◌-◌}
-use Rattle.std.proofs.Common.{rules, arith, ◌≡◌, ◌<◌, ◌∙◌, length, get_or}
-use Rattle.std.proofs.lemmas.List.{get_or_default}
-use Rattle.laws.proofs.Fold.{folds, fold_back}
+-- The fold over the rows that are left, from the best so far, is the fold over all; the row that is taken stands behind those left.
+use Rattle.std.proofs.Common.{◌≡◌, ◌∙◌, sym, ◌+◌, length}
+use Rattle.std.proofs.lemmas.List.{nil_from_length}
+use Rattle.laws.specs.Fold.{fold}
+use Rattle.laws.proofs.Fold.{fold_push}
 use Rattle.model.specs.Least.{least_row, least_in}
 use Rattle.model.proofs.least.least_in.Goals as goal
 
-pub loop-place-init : goal.loop-place-init
-loop-place-init g c = search (rules, folds)
-
 pub loop-place-preserved : goal.loop-place-preserved
 loop-place-preserved g c =
-    let within : c.loop-place.place - 1 < length c.args.rows.now = omega (arith, c.loop-place-test.true, c.loop-place.auto.place) in
-    let row : c.index-rows-place.result ≡ get_or c.args.rows.now (c.loop-place.place - 1) [] = c.index-rows-place.is ∙ get_or_default _ _ _ _ within in
-    fold_back (least_row c.args.scope c.args.bound) None [] c.loop-place.place c.args.rows.now c.loop-place.best
-    c.least_from-best.result (c.loop-place.place - 1) c.loop-place.invariant
-    c.loop-place-test.true c.loop-place.auto.place (rw row at c.least_from-best.ensures) refl
+    let s = c.in-Some.ensures.steps in
+    let f = least_row c.args.from.scope c.args.from.id in
+    let place : c.in-Some.place ≡ 0 + length c.next.new.self.iter.iter.rest.now = rw c.loop-place.invariant.0 at s.1.1 in (
+      s.0 ∙ c.loop-place.invariant.0,
+      rw (c.least_from-best.ensures, place) (sym (fold_push f c.loop-place.best 0 c.next.new.self.iter.iter.rest.now c.in-Some.row.now)
+          ∙ rw s.1.0 at c.loop-place.invariant.1),
+    )
 
 pub returns : goal.returns
-unfolding least_in
-returns g c = search (rules, folds)
+unfolding least_in fold
+returns g c = rw (nil_from_length _ c.in-None.ensures.steps.1.0) at c.loop-place.invariant.1

@@ -1,7 +1,6 @@
 -- The walk from here on is the whole walk, from a place that stands in its tag; each step leaves fewer segments.
 use mathlib.Core.Path.{sym, ◌∙◌}
-use Rattle.std.proofs.lemmas.Result.{err_from_is_err_and}
-use Rattle.resolve.proofs.Stepping.{follow_start, follow_end, follow_turned, follow_more, follow_less}
+use Rattle.resolve.proofs.Stepping.{follow_end}
 use Rattle.resolve.proofs.moves.follow.Goals as goal
 
 pub returns : goal.returns

@@ -1,9 +1,8 @@
 -- The object that the path starts with, then the tests of class, flags and ID in the definition's order.
 use mathlib.Core.Path.{sym, subst}
-use Rattle.std.proofs.lemmas.Result.{err_from_is_err_and}
 use Rattle.resolve.specs.Paths.{left, FirstObject}
-use Rattle.resolve.proofs.Rows.{found_none, found_some}
-use Rattle.resolve.proofs.Starting.{numbered-none, numbered-class, numbered-off, numbered-on}
+use Rattle.resolve.proofs.Rows.{found_some}
+use Rattle.resolve.proofs.Starting.{numbered-on}
 use Rattle.resolve.proofs.start.by_instance.Goals as goal
 
 pub returns : goal.returns

@@ -2,20 +2,13 @@
 use mathlib.Core.Path.{sym, ◌∙◌}
 use Prim.Native.Nat.{◌<◌}
 use Rattle.std.proofs.Common.{rules}
-use Rattle.std.proofs.lemmas.Result.{err_from_is_err_and}
 use Rattle.model.specs.Tables.{tables_of}
-use Rattle.resolve.proofs.Rows.{found_none, found_some}
-use Rattle.resolve.proofs.Starting.{program_few, program_found, program_none}
+use Rattle.resolve.proofs.Rows.{found_some}
+use Rattle.resolve.proofs.Starting.{program_few}
 use Rattle.resolve.proofs.start.in_program.Goals as goal
 
-pub overflow_add-k : goal.overflow_add-k
-overflow_add-k c =
-    let s = sym c.find_program.ensures ∙ found_some _ _ _ _ c.ok_or.ensures.value c.in_ok-k.was in
-    let few : c.in_ok-k.k < 16 = program_few (tables_of c.args.c.now.tables) c.args.name.now c.in_ok-k.k c.requires s in
-    search rules
-
-pub overflow_cast-k : goal.overflow_cast-k
-overflow_cast-k c =
+pub program_scope-requires : goal.program_scope-requires
+program_scope-requires c =
     let s = sym c.find_program.ensures ∙ found_some _ _ _ _ c.ok_or.ensures.value c.in_ok-k.was in
     let few : c.in_ok-k.k < 16 = program_few (tables_of c.args.c.now.tables) c.args.name.now c.in_ok-k.k c.requires s in
     search rules

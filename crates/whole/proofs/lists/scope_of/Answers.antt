@@ -10,17 +10,11 @@ returns-then-is_empty c = scope_controller _ _ (search rules)
 pub returns-in_err-k : goal.returns-in_err-k
 returns-in_err-k c = rw c.from_residual.ensures (scope_unknown _ _ (search rules) (sym c.in_err-k.ensures))
 
-pub overflow_cast-result : goal.overflow_cast-result
-overflow_cast-result c =
-    let h = program_inside _ _ _ c.in_ok-k.ensures in
-    let few = c.requires in
-    search rules
-
-pub overflow_add-result : goal.overflow_add-result
-overflow_add-result c =
+pub program_scope-requires : goal.program_scope-requires
+program_scope-requires c =
     let h = program_inside _ _ _ c.in_ok-k.ensures in
     let few = c.requires in
     search rules
 
 pub returns : goal.returns
-returns c = scope_known _ _ _ (search rules) (sym c.in_ok-k.ensures)
+returns c = rw c.program_scope.ensures (scope_known _ _ _ (search rules) (sym c.in_ok-k.ensures))

@@ -1,4 +1,5 @@
 -- From each bound on the entries that still fit end before the same ID and leave the same due; a step writes below the size.
+use mathlib.Core.Logic.{inl, inr}
 use Rattle.std.proofs.Common.{rules}
 use Rattle.listing.proofs.Filled.{further_more}
 use Rattle.whole.proofs.Walking.{bound_more, bound_full, bound_done, walk_kept}
@@ -15,11 +16,9 @@ loop-next-preserved c =
     )
 
 pub returns-in-Full-clause-passed : goal.returns-in-Full-clause-passed
-returns-in-Full-clause-passed c =
+returns-in-Full-clause-passed c o m v =
     let l = c.loop-next.invariant in
-    λ o m v. bound_full _ _ _ _ _ _ _ _ _ (l.3 o m v) _ _ (c.step.ensures.stepped o m v) c.in-Full.is l.1
-
-pub returns-in-Done-clause-passed : goal.returns-in-Done-clause-passed
-returns-in-Done-clause-passed c =
-    let l = c.loop-next.invariant in
-    λ o m v. bound_done _ _ _ _ _ _ _ _ _ (l.3 o m v) _ _ (c.step.ensures.stepped o m v) c.in-Done.is
+    elim c.in-Full.is [
+      | inl e ↦ bound_full _ _ _ _ _ _ _ _ _ (l.3 o m v) _ _ (c.step.ensures.stepped o m v) e l.1
+      | inr e ↦ bound_done _ _ _ _ _ _ _ _ _ (l.3 o m v) _ _ (c.step.ensures.stepped o m v) e
+    ]

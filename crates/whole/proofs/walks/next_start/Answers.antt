@@ -3,4 +3,4 @@ use Rattle.whole.proofs.Walking.{starts_next}
 use Rattle.whole.proofs.walks.next_start.Goals as goal
 
 pub returns-clause-starts : goal.returns-clause-starts
-returns-clause-starts c = λ o m v. starts_next _ _ _ _ _ _ _ (c.next_bound-bound.ensures.passed o m v) m v _ c.start_from.ensures
+returns-clause-starts c = λ o m v. starts_next _ _ _ _ _ _ _ (c.next_bound.ensures.passed o m v) m v _ c.start_from.ensures

@@ -7,12 +7,14 @@ use Rattle.writes.proofs.values.write.Goals as goal
 pub returns-in_err-w : goal.returns-in_err-w
 returns-in_err-w c =
     let same = err_from_is_err_and c.from_residual.result c.from_residual.ensures.1 in
-    rw (same.1, same.2) (fields_missing _ _ _ _ _ _ c.fields_of.ensures _ (sym c.in_err-w.ensures.value))
+    rw (same.1, same.2) (fields_missing _ _ _ _ _ _ c.fields_of.ensures.fields c.fields_of.ensures.offset _ (sym c.in_err-w.ensures.value))
 
 pub returns-then-g-ne-NO_BIT : goal.returns-then-g-ne-NO_BIT
 returns-then-g-ne-NO_BIT c =
-    writes_bit _ _ _ _ _ _ c.fields_of.ensures _ (sym c.in_ok-w.ensures.value) _ _ c.if-g-ne-NO_BIT.true c.write_bit.ensures
+    writes_bit _ _ _ _ _ _ c.fields_of.ensures.fields c.fields_of.ensures.offset _ (sym c.in_ok-w.ensures.value) _ _
+    c.if-g-ne-NO_BIT.true c.write_bit.ensures
 
 pub returns : goal.returns
 returns c =
-    writes_value _ _ _ _ _ _ c.fields_of.ensures _ (sym c.in_ok-w.ensures.value) _ _ c.if-g-ne-NO_BIT.false c.write_value.ensures
+    writes_value _ _ _ _ _ _ c.fields_of.ensures.fields c.fields_of.ensures.offset _ (sym c.in_ok-w.ensures.value) _ _
+    c.if-g-ne-NO_BIT.false c.write_value.ensures

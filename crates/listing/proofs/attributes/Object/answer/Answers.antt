@@ -2,7 +2,7 @@
 use Rattle.std.proofs.Common.{◌≡◌, length, arith}
 use Rattle.std.proofs.lemmas.List.{length-map}
 use Rattle.listing.specs.Numbers.{word, numbers_in}
-use Rattle.listing.proofs.Objects.{list-missing, list-large, list_sent}
+use Rattle.listing.proofs.Objects.{list-large, list_sent}
 use Rattle.listing.proofs.attributes.Object.answer.Goals as goal
 
 pub returns-then-limit-entries_size : goal.returns-then-limit-entries_size

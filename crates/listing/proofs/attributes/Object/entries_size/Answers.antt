@@ -1,27 +1,28 @@
--- What is added up so far and what is left is what all entries come to; each has at most 16 bytes, so the sum cannot overflow.
-use Rattle.std.proofs.Common.{arith, rules}
-use Rattle.listing.proofs.Lists.{sum_next, sum_end, few_short}
+-- The sum of the entries' sizes is what all entries come to; each has at most 16 bytes.
+use Rattle.std.proofs.Common.{◌≡◌, ◌∙◌, rules, length, List, ℕ, arith}
+use Rattle.std.specs.Prelude.{sum_by}
+use Rattle.std.specs.Int.{from_le_bytes, w16}
+use Rattle.definition.specs.Attributes.{attribute_entry, attribute_entries}
+use Rattle.listing.specs.Objects.{object_value}
+use Rattle.listing.specs.Numbers.{numbers_in}
+use Rattle.listing.proofs.Lists.{sum_all, few_short}
 use Rattle.listing.proofs.Objects.{entries, entry_short}
 use Rattle.listing.proofs.attributes.Object.entries_size.Goals as goal
+use Rattle.listing.proofs.attributes.Object.entries_size.Goals.{After-sum}
 
-pub overflow_add-used : goal.overflow_add-used
-overflow_add-used c =
-    let short = few_short _ _ (entries c.args.self.now) c.args.numbers.now.pairs.now 16 (entry_short c.args.self.now) c.args.numbers.now.few in
-    let next = sum_next _ _ (entries c.args.self.now) _ _ _ _ _ _ c.loop-pair.invariant c.loop-pair-test.true c.from_le_bytes.ensures
-    c.entry_size-used.ensures.size in
-    search rules
-
-pub loop-pair-preserved : goal.loop-pair-preserved
-loop-pair-preserved c =
-    sum_next _ _ (entries c.args.self.now) _ _ _ _ _ _ c.loop-pair.invariant c.loop-pair-test.true c.from_le_bytes.ensures c.entry_size-used.ensures.size
+summed : (c : After-sum) → c.sum.result ≡ length (attribute_entries (object_value c.args.self.now) (numbers_in c.args.numbers.now))
+summed c =
+    let s : c.sum.result ≡ sum_by (λ (p : List ℕ). length (attribute_entry (from_le_bytes w16 p) (object_value c.args.self.now (from_le_bytes w16 p))))
+    c.args.numbers.now.pairs.now = search rules in
+    s ∙ sum_all _ _ (entries c.args.self.now) c.args.numbers.now.pairs.now
 
 pub returns-clause-size : goal.returns-clause-size
-returns-clause-size c = omega (arith, sum_end _ _ (entries c.args.self.now) _ _ _ _ c.loop-pair.invariant c.loop-pair-test.false)
+returns-clause-size c = summed c
 
 pub returns-clause-small : goal.returns-clause-small
 returns-clause-small c =
     omega (
       arith,
-      sum_end _ _ (entries c.args.self.now) _ _ _ _ c.loop-pair.invariant c.loop-pair-test.false,
+      summed c,
       few_short _ _ (entries c.args.self.now) c.args.numbers.now.pairs.now 16 (entry_short c.args.self.now) c.args.numbers.now.few,
     )

@@ -1,26 +1,37 @@
--- What is added up so far and what is left is what the entry comes to; each attribute has at most 2^32 + 1 bytes, so the sum cannot overflow.
-use Rattle.std.proofs.Common.{◌∙◌, ap, length, arith, rules}
+-- The sum of the attributes' sizes is what all of them come to; each has at most 2^32 + 1 bytes, so the sum cannot overflow.
+use Rattle.std.proofs.Common.{◌≡◌, ◌∙◌, rules, length, List, ℕ, arith, ap, ◌+◌, ◌≤◌}
+use Rattle.std.specs.Prelude.{sum_by}
+use Rattle.std.specs.Int.{from_le_bytes, w16}
+use Rattle.definition.specs.Symbols.{symbol_attribute, attributes_of}
+use Rattle.listing.specs.declared.numbers.Numbers.{Numbers}
+use Rattle.listing.specs.declared.symbols.Symbol.{Symbol}
 use Rattle.listing.specs.Entries.{made}
-use Rattle.listing.proofs.Lists.{sum_next, sum_end, few_short}
+use Rattle.listing.specs.Numbers.{numbers_in}
+use Rattle.listing.proofs.Lists.{sum_all, few_short}
 use Rattle.listing.proofs.Made.{attributes, attribute_short}
 use Rattle.listing.proofs.symbols.Symbol.entry_size.Goals as goal
+use Rattle.listing.proofs.symbols.Symbol.entry_size.Goals.{After-sum}
 
-pub size-used-requires : goal.size-used-requires
-size-used-requires c =
-    omega (arith, ap length c.value.ensures, attribute_short (made c.args.self.now) c.args.self.now.short_name c.from_le_bytes.result)
+few : (s : Symbol) (numbers : Numbers) → length (attributes_of (made s) (numbers_in numbers)) ≤ 281470681808895
+few s numbers = omega (arith, few_short _ _ (attributes (made s)) numbers.pairs.now 4294967297 (attribute_short (made s) s.short_name) numbers.few)
 
-pub overflow_add-used : goal.overflow_add-used
-overflow_add-used c =
-    let d = made c.args.self.now in
-    let short = few_short _ _ (attributes d) c.args.numbers.now.pairs.now 4294967297 (attribute_short d c.args.self.now.short_name) c.args.numbers.now.few in
-    let next = sum_next _ _ (attributes d) _ _ _ _ _ _ c.loop-pair.invariant c.loop-pair-test.true c.from_le_bytes.ensures
-    (c.size-used.ensures ∙ ap length c.value.ensures) in
+pub sum-requires-clause-fits : goal.sum-requires-clause-fits
+sum-requires-clause-fits c =
+    let s = sum_all _ _ (attributes (made c.args.self.now)) c.args.numbers.now.pairs.now in
+    let l = few c.args.self.now c.args.numbers.now in
     search rules
 
-pub loop-pair-preserved : goal.loop-pair-preserved
-loop-pair-preserved c =
-    sum_next _ _ (attributes (made c.args.self.now)) _ _ _ _ _ _ c.loop-pair.invariant c.loop-pair-test.true c.from_le_bytes.ensures
-    (c.size-used.ensures ∙ ap length c.value.ensures)
+summed : (c : After-sum) → c.sum.result ≡ length (attributes_of (made c.args.self.now) (numbers_in c.args.numbers.now))
+summed c =
+    let s : c.sum.result ≡ sum_by (λ (p : List ℕ). length (symbol_attribute (made c.args.self.now) (from_le_bytes w16 p)))
+    c.args.numbers.now.pairs.now = search rules in
+    s ∙ sum_all _ _ (attributes (made c.args.self.now)) c.args.numbers.now.pairs.now
+
+pub overflow_add-result : goal.overflow_add-result
+overflow_add-result c =
+    let l = few c.args.self.now c.args.numbers.now in
+    let s = summed c in
+    search rules
 
 pub returns : goal.returns
-returns c = sum_end _ _ (attributes (made c.args.self.now)) _ _ _ _ c.loop-pair.invariant c.loop-pair-test.false
+returns c = ap (λ (n : ℕ). 4 + n) (summed c)

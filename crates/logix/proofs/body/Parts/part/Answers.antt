@@ -2,12 +2,6 @@
 use Rattle.logix.proofs.Offsets.{marks}
 use Rattle.logix.proofs.body.Parts.part.Goals as goal
 
-pub mark-start-requires : goal.mark-start-requires
-mark-start-requires c = search marks
-
-pub mark-end-requires : goal.mark-end-requires
-mark-end-requires c = search marks
-
 pub slice_bounds-result-count : goal.slice_bounds-result-count
 slice_bounds-result-count c = search marks
 

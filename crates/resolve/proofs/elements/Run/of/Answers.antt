@@ -3,7 +3,7 @@ use Prim.Native.Nat.{◌+◌, ◌≤◌}
 use native.Mathlib.Omega.{arith}
 use lib.ListN.{length}
 use Rattle.std.proofs.Common.{rules}
-use Rattle.resolve.proofs.Lefts.{left_few, run_fits, run_more, run_less, run_stop}
+use Rattle.resolve.proofs.Lefts.{left_few, run_fits, run_more, run_stop}
 use Rattle.resolve.proofs.elements.Run.of.Goals as goal
 
 pub overflow_add-run : goal.overflow_add-run

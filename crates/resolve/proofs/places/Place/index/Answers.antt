@@ -4,7 +4,7 @@ use Rattle.resolve.proofs.Indexes.{position_small, position_counted, position_wi
 use Rattle.resolve.proofs.places.Place.index.Goals as goal
 
 pub returns-then-dims-eq0 : goal.returns-then-dims-eq0
-returns-then-dims-eq0 c = index_refused _ c.args.self c.args.run _ c.dims-dims.ensures c.then-dims-eq0.either
+returns-then-dims-eq0 c = index_refused _ c.args.self c.args.run _ c.count_lengths-dims.ensures.count c.then-dims-eq0.either
 
 pub returns-then-not-is_inside : goal.returns-then-not-is_inside
 returns-then-not-is_inside c = search (rules, index_laws)

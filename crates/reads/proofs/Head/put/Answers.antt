@@ -1,6 +1,6 @@
 -- Without an extended word the header has four bytes; type header and data, put right behind it, make up the reply.
 use Rattle.reads.proofs.Reading.{fragment_put}
-use Rattle.reads.proofs.put_fragment.Goals as goal
+use Rattle.reads.proofs.Head.put.Goals as goal
 
 pub returns : goal.returns
 returns c =
