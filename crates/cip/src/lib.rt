@@ -113,12 +113,22 @@ pub fn low16(n: usize) -> u16
     (n % 65536) as u16
 }
 
+/// Copies as many bytes. The library's `copy_from_slice` is a call of `memmove`, which the archive would then need from its host.
+fn copy(to: &mut [u8], from: &[u8])
+    requires { length from.now ≡ length to.old }
+    ensures { to.new ≡ from.now }
+{
+    for (i, byte) in to.iter_mut().enumerate() {
+        *byte = from[i];
+    }
+}
+
 /// Copies all of `src` into the buffer.
 pub fn copy_into(buf: &mut [u8], at: usize, src: &[u8])
     requires { at + length src.now ≤ length buf.old }
     ensures { buf.new ≡ put buf.old at src.now }
 {
-    buf[at..at + src.len()].copy_from_slice(src);
+    copy(&mut buf[at..at + src.len()], src);
 }
 
 pub fn zero_from(buf: &mut [u8], at: usize, end: usize)

@@ -40,15 +40,14 @@ impl Held {
             return Ok(());
         };
         self.row = None;
-        let request = Hex(&self.bytes[..usize::from(row.len)]);
+        Hex(&self.bytes[..usize::from(row.len)]).show(to)?;
         if row.clicks > 1 {
-            println!(to;
-                "{request} # joined: {} masked writes from line {} on",
+            print!(to;
+                " # joined: {} masked writes from line {} on",
                 row.clicks, row.line
-            )
-        } else {
-            println!(to; "{request}")
+            )?;
         }
+        to.write_all(b"\n")
     }
 
     /// A request that joins no row: a masked write begins one, and anything else is passed on.

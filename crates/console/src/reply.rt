@@ -1,14 +1,31 @@
 // Bytes as text, two hex digits each; a reply with its general status in words.
 use std::{fmt, io};
 
+/// Bytes that are spelled at once.
+const PIECE: usize = 1024;
+
+/// An upper-case hex digit of a number below 16.
+fn digit(n: u8) -> u8 {
+    match n {
+        0..=9 => b'0' + n,
+        10..=15 => b'A' + (n - 10),
+        _ => b'?',
+    }
+}
+
 /// Bytes as two hex digits and a space each. Not `input::bytes::Hex`: users see and send upper-case digits with the space behind.
 #[derive(Clone, Copy)]
 pub struct Hex<'a>(pub &'a [u8]);
 
-impl<'a> fmt::Display for Hex<'a> {
-    fn fmt<W: fmt::Write>(&self, f: &mut fmt::Formatter<W>) -> fmt::Result {
-        for b in self.0 {
-            write!(f, "{b:02X} ")?;
+impl<'a> Hex<'a> {
+    /// Writes them, many at once and past the formatter, which takes a character at a time: a reply may have 65,535 bytes.
+    pub fn show(self, to: &impl Print) -> io::Result<()> {
+        let mut text = [[b' '; 3]; PIECE];
+        for piece in self.0.chunks(PIECE) {
+            for (three, b) in text.iter_mut().zip(piece) {
+                *three = [digit(b / 16), digit(b % 16), b' '];
+            }
+            to.write_all(text[..piece.len()].as_flattened())?;
         }
         Ok(())
     }
@@ -68,5 +85,6 @@ pub fn show(to: &impl Print, reply: &[u8], line: Option<u64>) -> io::Result<()> 
     if let Some(line) = line {
         print!(to; "{line}: ")?;
     }
-    println!(to; "{} # {}", Hex(reply), Status(reply))
+    Hex(reply).show(to)?;
+    println!(to; " # {}", Status(reply))
 }

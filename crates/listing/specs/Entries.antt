@@ -1,14 +1,14 @@
 -- A symbol of the code as the definition's, and what a step of a page leaves.
-use Rattle.std.specs.Prelude.{◌≡◌, ℕ, suc, ◌+◌, ◌-◌, ◌<◌, ◌≤◌, true, List, [], ◌∷◌, length, eqb}
+use Rattle.std.specs.Prelude.{◌≡◌, ℕ, suc, ◌+◌, ◌-◌, ◌<◌, ◌≤◌, true, List, [], ◌∷◌, ◌++◌, length, eqb}
 use Rattle.laws.specs.Pick.{pick}
 use Rattle.laws.specs.Put.{put}
 use Rattle.laws.specs.Tests.{every, pairs}
-use Rattle.definition.specs.Bytes.{part}
+use Rattle.definition.specs.Bytes.{le32, part}
 use Rattle.definition.specs.Reply.{reply, fail, partial, too_large}
 use Rattle.definition.specs.Tables.{Tables, Row, tag_elements, tag_access}
 use Rattle.definition.specs.Valid.{ids_differ}
 use Rattle.definition.specs.Page.{Entry}
-use Rattle.definition.specs.Symbols.{Symbol as Defined, due}
+use Rattle.definition.specs.Symbols.{Symbol as Defined, attributes_of, due}
 use Rattle.model.specs.Tables.{for_page}
 use Rattle.listing.specs.declared.pages.Walk.{Walk}
 use Rattle.listing.specs.declared.pages.Step.{Step}
@@ -36,6 +36,10 @@ made s = record {
   lengths = s.lengths;
   access = s.access;
 }
+
+-- a symbol's entry, its own ID and its attributes, where it is listed by an ID that may be another
+abbrev pub entry_by : (id : ℕ) (attributes : List ℕ) → Defined → Entry
+entry_by id attributes s = record { id = id; bytes = le32 s.id ++ attributes_of s attributes }
 
 -- what a tag's row has to be for its symbol: where the tables are valid it is
 abbrev pub ListableRow : (r : Row) → Type 0

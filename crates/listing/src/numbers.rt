@@ -1,7 +1,7 @@
 // A list of attribute numbers: their count in 16 bits, and as many numbers of 16 bits.
-ghost use Rattle.std.specs.Prelude.{◌≡◌, ◌≤◌, length};
+ghost use Rattle.std.specs.Prelude.{◌≡◌, ◌≤◌, length, map};
 ghost use Rattle.laws.specs.Tests.{every};
-ghost use Rattle.definition.specs.Bytes.{counted};
+ghost use Rattle.definition.specs.Bytes.{counted, u16_at};
 ghost use Rattle.definition.specs.Symbols.{is_listed};
 
 // The attributes that a page knows. They are numbers and no enum: a list may name any number, and the reply to an attribute list gives each
@@ -45,10 +45,17 @@ impl<'a> Numbers<'a> {
     pub fn all_listed(&self) -> bool
         ensures { result ≡ every is_listed (numbers_in self.now) }
     {
-        self.pairs
-            .iter()
-            .all(|pair| is_listed(u16::from_le_bytes(*pair)))
+        all_listed(self.pairs)
     }
+}
+
+/// Whether a page knows all numbers of a list of any length, two bytes each.
+pub fn all_listed(pairs: &[[u8; 2]]) -> bool
+    ensures { result ≡ every is_listed (map (λ pair. u16_at pair 0) pairs.now) }
+{
+    pairs
+        .iter()
+        .all(|pair| is_listed(u16::from_le_bytes(*pair)))
 }
 
 /// Whether an attribute is one that a page knows.

@@ -11,7 +11,7 @@ ghost use Rattle.cip.specs.Writes.{Laid};
 ghost use Rattle.model.specs.Least.{next_in};
 ghost use Rattle.model.specs.Tables.{tables_of, SomeValid, WhereValid};
 ghost use Rattle.listing.specs.Numbers.{numbers_in};
-ghost use Rattle.listing.specs.Entries.{page_lent, made, EntryStep, Stepped, IdsApart, Further, stopped};
+ghost use Rattle.listing.specs.Entries.{page_lent, made, entry_by, EntryStep, Stepped, IdsApart, Further, stopped};
 
 use crate::numbers::Numbers;
 use crate::symbols::Symbol;
@@ -56,6 +56,7 @@ impl<'a> Page<'a> {
     pub fn begin(&self) -> Walk
         ensures used { result.used ≡ 4 }
         ensures bound { result.bound ≡ self.now.start.id }
+        ensures hint { result.hint ≡ self.now.start.id - 1 }
     {
         Walk {
             used: replies::HEADER,
@@ -94,8 +95,24 @@ impl<'a> Page<'a> {
 
     /// A symbol's entry, if it fits.
     fn put_entry(&self, symbol: &Symbol, walk: Walk, limit: usize, buf: &mut [u8]) -> Step
-        requires { (walk.used ≤ limit) × (limit ≤ length buf.old) }
+        requires { (length symbol.now.name.now ≤ 4294967295) × (walk.used ≤ limit) × (limit ≤ length buf.old) }
         ensures entry { EntryStep (entry_of (numbers_in self.now.numbers) (made symbol.now)) limit walk.used buf.old result buf.new }
+        ensures further { Further walk.used limit result }
+    {
+        self.entry_step(symbol.id, symbol, walk, limit, buf)
+    }
+
+    /// A symbol's entry, if it fits, listed by any ID: the next one's is above that.
+    pub fn entry_step(
+        &self,
+        id: u32,
+        symbol: &Symbol,
+        walk: Walk,
+        limit: usize,
+        buf: &mut [u8],
+    ) -> Step
+        requires { (length symbol.now.name.now ≤ 4294967295) × (walk.used ≤ limit) × (limit ≤ length buf.old) }
+        ensures entry { EntryStep (entry_by id (numbers_in self.now.numbers) (made symbol.now)) limit walk.used buf.old result buf.new }
         ensures further { Further walk.used limit result }
     {
         if limit - walk.used < symbol.entry_size(&self.numbers) {
@@ -104,7 +121,7 @@ impl<'a> Page<'a> {
         cip::put_u32(buf, walk.used, symbol.id);
         Step::More(Walk {
             used: symbol.put_attributes(&self.numbers, buf, walk.used + 4),
-            bound: u64::from(symbol.id) + 1,
+            bound: u64::from(id) + 1,
             ..walk
         })
     }

@@ -1,12 +1,12 @@
 // The symbols that a page lists: table rows made symbols, and a symbol's entry, its ID and then the listed attributes.
-ghost use Rattle.std.specs.Prelude.{◌≡◌, ◌+◌, ◌*◌, ◌%◌, ◌≤◌, length};
+ghost use Rattle.std.specs.Prelude.{◌≡◌, ◌+◌, ◌*◌, ◌%◌, ◌≤◌, length, map};
 ghost use Rattle.laws.specs.Pick.{pick};
 ghost use Rattle.laws.specs.Put.{put};
 ghost use Rattle.definition.specs.Tables.{other_name};
 ghost use Rattle.definition.specs.Lookup.{marked};
 ghost use Rattle.definition.specs.Symbols.{symbol_attribute, attributes_of, base_tag, tag_symbol, other_symbol};
 ghost use Rattle.model.specs.Tables.{tables_of, Whatever};
-ghost use Rattle.listing.specs.Numbers.{numbers_in};
+ghost use Rattle.listing.specs.Numbers.{word, numbers_in};
 ghost use Rattle.listing.specs.Values.{value_bytes};
 
 use crate::numbers::{ADDRESS, CONTROL, LENGTHS, NAME, Numbers, OBJECT_ADDRESS, SIZE, TYPE};
@@ -17,7 +17,7 @@ use model::columns::{
 };
 use model::{Tables, lookup, shapes, types};
 
-/// A symbol's attributes, as a page sends them. A row has the length of a name in 32 bits.
+/// A symbol's attributes, as a page sends them.
 #[derive(Clone, Copy)]
 pub struct Symbol<'a> {
     pub id: u32,
@@ -28,16 +28,16 @@ pub struct Symbol<'a> {
     pub size: u32,
     pub lengths: [u32; 3],
     pub access: u8,
-    pub ghost short_name: { length name.now ≤ 4294967295 },
 }
 
 impl<'a> Symbol<'a> {
     ghost use Rattle.listing.specs.Entries.{tag_lent, other_lent, made, ListableRow};
 
-    /// A tag, whose access is at most 3 and which has elements, as where the tables are valid.
+    /// A tag, whose access is at most 3 and which has elements, as where the tables are valid. A row has the length of its name in 32 bits.
     pub fn of_tag(t: &Tables<'a>, row: &[u32; 12]) -> Symbol<'a>
         requires { ListableRow row.now }
-        ensures { Whatever (tag_lent (tables_of t.now)) (λ o. made result ≡ tag_symbol o row.now) }
+        ensures symbol { Whatever (tag_lent (tables_of t.now)) (λ o. made result ≡ tag_symbol o row.now) }
+        ensures short { length result.name.now ≤ 4294967295 }
     {
         let dims = shapes::count_lengths(shapes::lengths_of(row));
         let [listed, _] = shapes::shapes(row);
@@ -54,7 +54,8 @@ impl<'a> Symbol<'a> {
 
     #[tactic(auto, unfolding(definition::specs::Symbols::other_symbol))]
     pub fn of_other(t: &Tables<'a>, row: &[u32; 5]) -> Symbol<'a>
-        ensures { Whatever (other_lent (tables_of t.now)) (λ o. made result ≡ other_symbol o row.now) }
+        ensures symbol { Whatever (other_lent (tables_of t.now)) (λ o. made result ≡ other_symbol o row.now) }
+        ensures short { length result.name.now ≤ 4294967295 }
     {
         Symbol {
             id: row[OTHER_ID],
@@ -88,6 +89,7 @@ impl<'a> Symbol<'a> {
     /// The bytes of an attribute's value.
     #[tactic(auto, using(crate::proofs::Made::attribute_short))]
     fn attribute_size(&self, number: u16) -> usize
+        requires { length self.now.name.now ≤ 4294967295 }
         ensures { result ≡ length (symbol_attribute (made self.now) number) }
     {
         self.value(number).size()
@@ -95,6 +97,7 @@ impl<'a> Symbol<'a> {
 
     /// The bytes of the entry: its ID has four.
     pub fn entry_size(&self, numbers: &Numbers) -> usize
+        requires { length self.now.name.now ≤ 4294967295 }
         ensures { result ≡ 4 + length (attributes_of (made self.now) (numbers_in numbers.now)) }
     {
         let sizes = numbers
@@ -110,19 +113,35 @@ impl<'a> Symbol<'a> {
         ensures end { result ≡ at + length (attributes_of (made self.now) (numbers_in numbers.now)) }
         ensures bytes { buf.new ≡ put buf.old at (attributes_of (made self.now) (numbers_in numbers.now)) }
     {
+        self.put_listed(numbers.pairs, buf, at)
+    }
+
+    /// Writes the attributes of a list of any length, two bytes for each number; they fit. Returns where they end.
+    pub fn put_listed(&self, pairs: &[[u8; 2]], buf: &mut [u8], at: usize) -> usize
+        requires { at + length (attributes_of (made self.now) (map word pairs.now)) ≤ length buf.old }
+        ensures end { result ≡ at + length (attributes_of (made self.now) (map word pairs.now)) }
+        ensures bytes { buf.new ≡ put buf.old at (attributes_of (made self.now) (map word pairs.now)) }
+    {
         let mut used = at;
-        for pair in numbers.pairs {
+        for pair in pairs {
             used += self.value(u16::from_le_bytes(*pair)).put(buf, used);
         }
         used
     }
 }
 
+/// The product modulo 2^32.
+fn wrapping_mul32(x: u32, y: u32) -> u32
+    ensures { result ≡ x * y % 4294967296 }
+{
+    x.wrapping_mul(y)
+}
+
 /// An ID times a factor plus an offset, modulo 2^32.
 fn address_of(id: u32, factor: u32, offset: u32) -> u32
     ensures { result ≡ (id * factor + offset) % 4294967296 }
 {
-    id.wrapping_mul(factor).wrapping_add(offset)
+    wrapping_mul32(id, factor).wrapping_add(offset)
 }
 
 /// Attribute 6 of a tag that is no alias.

@@ -10,7 +10,7 @@ use native.Mathlib.Numerals.{add-one}
 use lib.Dec.{ltb, leb}
 use Rattle.std.specs.Int.{from_le_bytes, w16}
 use Rattle.std.specs.Prelude.{map}
-use Rattle.std.proofs.lemmas.List.{get_or-map, length-map}
+use Rattle.std.proofs.lemmas.List.{length-map}
 use Rattle.listing.specs.Numbers.{word}
 use lib.ListN.{length, get_or, drop, length-take, drop_of_length-le, get_or-eq_default}
 use lib.Seq.{drop-cons}
@@ -20,7 +20,7 @@ use Rattle.laws.proofs.Chain.{by_test, clash}
 use Rattle.laws.proofs.Tests.{both_true}
 use Rattle.definition.specs.Bytes.{u16_at, numbers, part, counted}
 use Rattle.definition.specs.Envelope.{ascending, parts_from, parts_of}
-use Rattle.definition.proofs.Numbers.{numbers_long}
+use Rattle.definition.proofs.Numbers.{numbers_at, numbers_long, u16_drop}
 use Rattle.logix.specs.Marked.{mark_at, PartOf}
 
 -- as the library reads two bytes
@@ -29,16 +29,14 @@ as_word p = omega arith
 
 -- ---- the offset of a part
 
-module _ (body : List ℕ) (pairs : List (List ℕ)) (i : ℕ) where
-  pub mark_in : map word pairs ≡ numbers (length pairs) (drop 2 body) → (p : List ℕ) (x r : ℕ) → i < length pairs → p ≡ get_or pairs i []
-      → x ≡ from_le_bytes w16 p → r ≡ x → r ≡ mark_at body (length pairs) i
+module _ (body : List ℕ) (count i : ℕ) where
+  pub mark_in : (x r : ℕ) → i < count → x ≡ u16_at body (2 + 2 * i) → r ≡ x → r ≡ mark_at body count i
   unfolding mark_at
-  mark_in read p x r h e w q =
-      q ∙ w ∙ as_word p ∙ ap word e ∙ sym (get_or-map word pairs i [] (length body) h) ∙ ap (λ (l : List ℕ). get_or l i (length body)) read
+  mark_in x r h e q = q ∙ e ∙ sym (numbers_at count (drop 2 body) i (length body) h ∙ u16_drop body 2 (2 * i) (2 + 2 * i) refl)
 
-  pub mark_end : length pairs ≤ i → length body ≡ mark_at body (length pairs) i
+  pub mark_end : count ≤ i → length body ≡ mark_at body count i
   unfolding mark_at
-  mark_end h = sym (get_or-eq_default (numbers (length pairs) (drop 2 body)) (length body) (rw numbers_long h))
+  mark_end h = sym (get_or-eq_default (numbers count (drop 2 body)) (length body) (rw numbers_long h))
 
 -- ---- offsets that do not fall back
 
@@ -165,6 +163,10 @@ module _ (body : List ℕ) where
       let l = ltb-false (length body) (2 + 2 * n) t in
       let o : ascending (2 + 2 * n) (numbers n (drop 2 body)) (length body) ≡ true = test_some _ _ ∙ (rw (parts_by l) at some-there) in
       record { is = parts_by l ∙ rw o; long = l; order = o })
+
+  -- all offsets lie in it
+  pub offsets_there : (count : ℕ) → is_some (parts_of body) ≡ true → count ≡ u16_at body 0 → 2 + 2 * count ≤ length body
+  offsets_there count p c = rw c (has_parts _ refl p).long
 
   module _ (count i start end : ℕ) (p : is_some (parts_of body) ≡ true) (c : count ≡ u16_at body 0) (h : i < count)
       (s : start ≡ mark_at body count i) (e : end ≡ mark_at body count (i + 1)) where

@@ -6,6 +6,7 @@ ghost use Rattle.definition.specs.Envelope.{ascending, parts_of};
 ghost use Rattle.listing.specs.Numbers.{word};
 ghost use Rattle.logix.specs.Marked.{mark_at, PartOf};
 
+use crate::parts;
 use listing::numbers::Numbers;
 
 /// An envelope's body that has as many parts as it says, with their offsets, two bytes each: these start behind themselves, do not fall back and
@@ -53,10 +54,7 @@ impl<'a> Parts<'a> {
     fn mark(&self, i: usize) -> usize
         ensures { result ≡ mark_at self.now.body.now (length self.now.offsets.now) i }
     {
-        let Some(pair) = self.offsets.get(i) else {
-            return self.body.len();
-        };
-        usize::from(u16::from_le_bytes(*pair))
+        parts::mark(self.body, self.offsets.len(), i)
     }
 
     /// A part's bytes.

@@ -1,11 +1,13 @@
-// The test for an envelope, and what is written around the replies to its parts.
+// The test for an envelope, where its parts stand, and what is written around the replies to them.
 ghost use Rattle.std.specs.Prelude.{◌≡◌, ◌+◌, ◌-◌, ◌*◌, ◌≤◌, length, get_or};
+ghost use Rattle.definition.specs.Bytes.{u16_at};
 ghost use Rattle.definition.specs.Reply.{fail, room, not_supported};
 ghost use Rattle.definition.specs.Tables.{takes_envelopes};
 ghost use Rattle.definition.specs.Envelope.{envelope_service};
 ghost use Rattle.cip.specs.Statuses.{status_of};
 ghost use Rattle.model.specs.Tables.{flags_of};
 ghost use Rattle.logix.specs.Answered.{EnvelopeTest};
+ghost use Rattle.logix.specs.Marked.{mark_at};
 ghost use Rattle.logix.specs.Placed.{Copied, marked, outcome_of, Closed};
 
 use cip::codes::{ENVELOPE, ROUTER_CLASS, ROUTER_INSTANCE};
@@ -46,6 +48,25 @@ pub fn first_of(s: &[u8]) -> u8
     ensures { result ≡ get_or s.now 0 0 }
 {
     s.first().copied().unwrap_or(0)
+}
+
+/// The number of parts that a body starts with.
+pub fn count_of(body: &[u8]) -> usize
+    requires { 2 ≤ length body.now }
+    ensures { (result ≡ u16_at body.now 0) × (result ≤ 65535) }
+{
+    usize::from(cip::u16_at(body, 0))
+}
+
+/// The offset of a part, or the body's end behind the last one.
+pub fn mark(body: &[u8], count: usize, i: usize) -> usize
+    requires { 2 + 2 * count ≤ length body.now }
+    ensures { result ≡ mark_at body.now count i }
+{
+    if i < count {
+        return usize::from(cip::u16_at(body, 2 + 2 * i));
+    }
+    body.len()
 }
 
 /// A part's limit: what is left, less 4 bytes for each part still to come.

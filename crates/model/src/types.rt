@@ -1,6 +1,6 @@
 // Atomic codes, type words, element sizes and type headers.
-ghost use Rattle.std.specs.Prelude.{◌≡◌, ◌+◌, ◌-◌, ◌<◌, ◌≤◌, length};
-ghost use Rattle.definition.specs.Tables.{field};
+ghost use Rattle.std.specs.Prelude.{◌≡◌, [], ◌+◌, ◌-◌, ◌<◌, ◌≤◌, get_or, length};
+ghost use Rattle.definition.specs.Tables.{field, handle};
 ghost use Rattle.definition.specs.Types.{atomic_size, has_bits, is_structure, structure_in, size_in, type_header, symbol_type};
 ghost use Rattle.cip.specs.Writes.{Written};
 
@@ -55,6 +55,13 @@ pub fn structure_word(structures: &[[u32; 10]], ty: u32, column: usize) -> u32
     structures.get(index_of(ty)).map_or(0, |row| row[column])
 }
 
+/// The handle of the structure in a row, whatever the row's number; 0 where there is no such row.
+pub fn structure_handle(structures: &[[u32; 10]], i: usize) -> u32
+    ensures { result ≡ handle (get_or structures.now i []) }
+{
+    structures.get(i).map_or(0, |row| row[STRUCTURE_HANDLE])
+}
+
 /// The bytes of one element of a type.
 #[tactic(auto, using(laws::proofs::Chain::chain), unfolding(definition::specs::Types::size_in))]
 pub fn element_size(structures: &[[u32; 10]], ty: u32) -> u32
@@ -80,7 +87,7 @@ pub fn put_type_header(buf: &mut [u8], at: usize, structures: &[[u32; 10]], ty: 
     cip::put_u16(
         buf,
         at + 2,
-        cip::low16(structure_word(structures, ty, STRUCTURE_HANDLE) as usize),
+        cip::low16(structure_handle(structures, index_of(ty)) as usize),
     );
     4
 }

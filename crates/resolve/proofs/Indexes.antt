@@ -22,7 +22,7 @@ use Rattle.definition.proofs.Inside.{position_below}
 use Rattle.resolve.specs.declared.places.Place.{Place}
 use Rattle.resolve.specs.declared.elements.Run.{Run}
 use Rattle.resolve.specs.Places.{first_of, second_of, third_of, open_lengths, place_of}
-use Rattle.resolve.specs.Runs.{last_three, Holds, inside_of, position_of, Bounded}
+use Rattle.resolve.specs.Runs.{last_three, Holds, inside_of, position_of, index_of, Bounded}
 
 both_end : (b : Bool) → both b true ≡ b
 both_end true = refl
@@ -155,6 +155,10 @@ module _ (t : Tables) (g : Place) (run : Run) (n : ℕ) (dims : n ≡ length (op
   abbrev Indexed : Resolved → Type 0
   Indexed d = (es : List ℕ) → Holds es run → d ≡ index t es (place_of g)
 
+  -- of a run that holds a list or none
+  abbrev AnyIs : Resolved → Type 0
+  AnyIs d = d ≡ index_of t g run
+
   index_closed : n ≡ 0 → Indexed (turned path_error)
   unfolding index
   index_closed h es held = rw (no_element ns (sym dims ∙ h))
@@ -166,6 +170,11 @@ module _ (t : Tables) (g : Place) (run : Run) (n : ℕ) (dims : n ≡ length (op
   pub index_refused : (n ≡ 0) ⊎ ((n ≢ 0) × (run.count ≢ n)) → Indexed (turned path_error)
   index_refused (inl h) = index_closed h
   index_refused (inr h) = index_number h.1
+
+  pub any_refused : (n ≡ 0) ⊎ ((n ≢ 0) × (run.count ≢ n)) → AnyIs (turned path_error)
+  unfolding index_of
+  any_refused (inl h) = rw (no_element ns (sym dims ∙ h))
+  any_refused (inr h) = rw (ne_eqb run.count (length ns) (λ e. h.1 (e ∙ sym dims)), pick_same)
 
   module _ (some : n ≢ 0) (same : run.count ≡ n) (b : Bool) (tests : b ≡ inside_of g.lengths run.last) where
     some_open : length ns ≢ 0
@@ -181,13 +190,27 @@ module _ (t : Tables) (g : Place) (run : Run) (n : ℕ) (dims : n ≡ length (op
     counts : (es : List ℕ) → Holds es run → eqb (length es) (length ns) ≡ true
     counts es held = eq-eqb (length es) (length ns) (sym held.count_is ∙ same ∙ dims)
 
+    any_counts : eqb run.count (length ns) ≡ true
+    any_counts = eq-eqb run.count (length ns) (same ∙ dims)
+
     pub index_outside : b ≡ false → Indexed (turned path_unknown)
     unfolding index
     index_outside off es held = rw (opened, counts es held, ← (tested es held).0, ← tests, off)
+
+    pub any_outside : b ≡ false → AnyIs (turned path_unknown)
+    unfolding index_of
+    any_outside off = rw (opened, any_counts, ← tests, off)
 
     pub index-inside : b ≡ true → (p : ℕ) → p ≡ position_of g.lengths run.last → (to : Target)
         → to ≡ elements_from t (place_of g) p → Indexed (found to)
     unfolding index
     index-inside on p e to f es held = rw (opened, counts es held, ← (tested es held).0, ← tests, on, ← (tested es held).1, ← e, f)
 
+    pub any-inside : b ≡ true → (p : ℕ) → p ≡ position_of g.lengths run.last → (to : Target) → to ≡ elements_from t (place_of g) p
+        → AnyIs (found to)
+    unfolding index_of
+    any-inside on p e to f = rw (opened, any_counts, ← tests, on, ← e, f)
+
 pub ruleset index_laws = (index_refused, index_outside, index-inside)
+
+pub ruleset any_laws = (any_refused, any_outside, any-inside)

@@ -4,7 +4,7 @@ use mathlib.Core.Path.{◌≡◌, refl}
 use mathlib.Core.Bool.{true, false}
 use mathlib.Core.List.{List, [], ◌∷◌}
 use Rattle.std.specs.Prelude.{Option, None, Some, Err, Result}
-use Prim.Native.Nat.{ℕ, ◌<◌, ◌≤◌}
+use Prim.Native.Nat.{ℕ, suc, ◌+◌, ◌<◌, ◌≤◌}
 use native.Mathlib.Omega.{arith}
 use lib.ListN.{length, drop}
 use borrow.Author.Tests.{eq-eqb}
@@ -74,6 +74,12 @@ module _ (t : Tables) (f : Flags) where
         → (r : Result Start Status) → Numbered r → Scoped r
     unfolding in_scope
     scope-other s next e n r b = record { is = rw (e, no_name s n) (rw e at b.is); inside = b.inside }
+
+  -- ---- in a program
+
+  pub program_found : (name : List ℕ) (k scope : ℕ) (l : List Defined) (r : Result Start Status) → program_named t name ≡ Some k → scope ≡ k + 1
+      → Starts (in_scope t f scope l) r → Starts (in_program t f (program_named t name) l) r
+  program_found name k scope l r e g b = let h : scope ≡ suc k = omega (arith, g) in rw e (rw h at b)
 
 -- ---- the prefix
 

@@ -7,9 +7,14 @@ use Rattle.definition.specs.Lookup.{program_named}
 use Rattle.definition.specs.Resolve.{Resolved, turned, whole_tag, moves, walk, in_scope, in_program, resolve}
 use Rattle.cip.specs.Statuses.{status_of}
 use Rattle.cip.specs.declared.Status.{Status}
+use Rattle.model.specs.Tables.{for_start}
 use Rattle.resolve.specs.declared.rest.Rest.{Rest}
 use Rattle.resolve.specs.declared.start.Start.{Start}
 use Rattle.resolve.specs.Paths.{left}
+
+-- the tables that a path's tag is found in, whatever the others are
+abbrev pub start_tables : Tables → Tables → Tables
+start_tables t o = for_start t.programs t.tags t.names t.tag_names o
 
 abbrev pub found_at : Option ℕ → Rest → (unknown : Status) → Result Start Status
 found_at None rest unknown = Err unknown

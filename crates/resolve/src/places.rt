@@ -5,7 +5,7 @@ ghost use Rattle.definition.specs.Types.{size_in};
 ghost use Rattle.definition.specs.Resolve.{elements_from, index, member_target};
 ghost use Rattle.model.specs.Tables.{tables_of};
 ghost use Rattle.resolve.specs.Places.{place_of, moved_of, whole_row, Aims};
-ghost use Rattle.resolve.specs.Runs.{Bounded, Holds};
+ghost use Rattle.resolve.specs.Runs.{Bounded, Holds, index_of};
 
 use crate::elements::Run;
 use cip::Status;
@@ -78,7 +78,8 @@ impl Place {
     /// An array is open, the number of indexes matches, each is below its length.
     pub fn index(self, t: &Tables, run: Run) -> Result<Place, Status>
         requires { Bounded t.now.structures.now self }
-        ensures { (es : List ℕ) → Holds es run.entry → moved_of result ≡ index (tables_of t.now) es (place_of self) }
+        ensures listed { (es : List ℕ) → Holds es run.entry → moved_of result ≡ index (tables_of t.now) es (place_of self) }
+        ensures any_run { moved_of result ≡ index_of (tables_of t.now) self run.entry }
     {
         let dims = shapes::count_lengths(self.lengths);
         if dims == 0 || run.count != dims {

@@ -4,9 +4,9 @@ ghost use Rattle.definition.specs.Lookup.{program_named};
 ghost use Rattle.definition.specs.Request.{object_of, symbol_instance};
 ghost use Rattle.definition.specs.Resolve.{by_instance, in_scope, in_program, resolve};
 ghost use Rattle.definition.specs.Tables.{takes_instances};
-ghost use Rattle.model.specs.Tables.{tables_of, flags_of};
+ghost use Rattle.model.specs.Tables.{Whatever, tables_of, flags_of};
 ghost use Rattle.resolve.specs.Paths.{left};
-ghost use Rattle.resolve.specs.Starts.{found_at, Begins, Prefixed};
+ghost use Rattle.resolve.specs.Starts.{start_tables, found_at, Begins, Prefixed};
 
 use crate::rest::Rest;
 use cip::Status;
@@ -37,8 +37,8 @@ fn takes_instances(flags: Flags) -> bool
 
 /// Class 0x6B and an instance.
 fn by_instance<'a>(c: &Controller, rest: Rest<'a>, scope: u32) -> Result<Start<'a>, Status>
-    ensures { let t = tables_of c.now.tables in let f = flags_of c.now.flags in let l = left rest.entry in
-        Begins t f (by_instance t f scope (symbol_instance (object_of l)) (drop 2 l)) result }
+    ensures { let f = flags_of c.now.flags in let l = left rest.entry in Whatever (start_tables (tables_of c.now.tables))
+        (λ t. Begins t f (by_instance t f scope (symbol_instance (object_of l)) (drop 2 l)) result) }
 {
     let (object, next) = rest.object().ok_or(Status::PathError)?;
     if object.class != cip::codes::SYMBOL_CLASS {
@@ -53,8 +53,8 @@ fn by_instance<'a>(c: &Controller, rest: Rest<'a>, scope: u32) -> Result<Start<'
 
 /// The tag of a scope.
 fn in_scope<'a>(c: &Controller, rest: Rest<'a>, scope: u32) -> Result<Start<'a>, Status>
-    ensures { let t = tables_of c.now.tables in let f = flags_of c.now.flags in
-        Begins t f (in_scope t f scope (left rest.entry)) result }
+    ensures { let f = flags_of c.now.flags in Whatever (start_tables (tables_of c.now.tables))
+        (λ t. Begins t f (in_scope t f scope (left rest.entry)) result) }
 {
     let (first, next) = rest.segment().ok_or(Status::PathError)?;
     match first {
@@ -69,8 +69,8 @@ fn in_scope<'a>(c: &Controller, rest: Rest<'a>, scope: u32) -> Result<Start<'a>,
 /// The tag of the program of this name.
 fn in_program<'a>(c: &Controller, rest: Rest<'a>, name: &[u8]) -> Result<Start<'a>, Status>
     requires { length c.now.tables.programs.now ≤ 16 }
-    ensures { let t = tables_of c.now.tables in let f = flags_of c.now.flags in
-        Begins t f (in_program t f (program_named t name.now) (left rest.entry)) result }
+    ensures { let f = flags_of c.now.flags in Whatever (start_tables (tables_of c.now.tables))
+        (λ t. Begins t f (in_program t f (program_named t name.now) (left rest.entry)) result) }
 {
     let k = c.tables.find_program(name).ok_or(Status::PathError)?;
     in_scope(c, rest, lookup::program_scope(k))
@@ -90,8 +90,10 @@ fn program_first<'a>(path: Rest<'a>) -> Option<(&'a [u8], Rest<'a>)>
 /// The tag of a path.
 pub fn tag_of<'a>(c: &Controller, path: Rest<'a>) -> Result<Start<'a>, Status>
     requires { length c.now.tables.programs.now ≤ 16 }
-    ensures { let t = tables_of c.now.tables in let f = flags_of c.now.flags in
+    ensures lent { let t = tables_of c.now.tables in let f = flags_of c.now.flags in
         Begins t f (resolve t f (left path.entry)) result }
+    ensures whatever { let f = flags_of c.now.flags in Whatever (start_tables (tables_of c.now.tables))
+        (λ t. Begins t f (resolve t f (left path.entry)) result) }
 {
     match program_first(path) {
         Some((name, next)) => in_program(c, next, name),

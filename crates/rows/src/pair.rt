@@ -1,5 +1,6 @@
 // The tests of two rows: names, IDs and bytes.
-ghost use Rattle.std.specs.Prelude.{◌≡◌, ◌<◌};
+ghost use Rattle.std.specs.Prelude.{◌≡◌, ◌<◌, not, eqb};
+ghost use Rattle.laws.specs.Pick.{both};
 ghost use Rattle.definition.specs.Valid.{other_names_differ, program_names_differ, ids_differ, apart};
 ghost use Rattle.rows.specs.Judged.{tag_pair, tag_other};
 
@@ -28,13 +29,21 @@ pub fn names_differ<const N: usize, const M: usize>(
         )
 }
 
+/// Two symbols of one scope have different IDs. It takes scopes and IDs alone, as of symbols that stand in no row.
+#[tactic(auto, using(laws::proofs::Chain::unlike))]
+pub fn numbers_differ(scope: u32, id: u32, other_scope: u32, other_id: u32) -> bool
+    ensures { result ≡ not (both (eqb scope other_scope) (eqb id other_id)) }
+{
+    scope != other_scope || id != other_id
+}
+
 /// Two symbols, tags or others, of one scope have different IDs.
-#[tactic(auto, using(laws::proofs::Chain::unlike), unfolding(definition::specs::Valid::ids_differ))]
+#[tactic(auto, unfolding(definition::specs::Valid::ids_differ))]
 pub fn ids_differ<const N: usize, const M: usize>(a: &[u32; N], b: &[u32; M]) -> bool
     requires { (3 < N) × (3 < M) }
     ensures { result ≡ ids_differ a.now b.now }
 {
-    a[SYMBOL_SCOPE] != b[SYMBOL_SCOPE] || a[SYMBOL_ID] != b[SYMBOL_ID]
+    numbers_differ(a[SYMBOL_SCOPE], a[SYMBOL_ID], b[SYMBOL_SCOPE], b[SYMBOL_ID])
 }
 
 /// The bytes of two tags.

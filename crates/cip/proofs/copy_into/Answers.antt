@@ -4,4 +4,4 @@ use native.Mathlib.Omega.{arith}
 use Rattle.cip.proofs.copy_into.Goals as goal
 
 pub returns : goal.returns
-returns c = mid-put c.args.buf.now c.args.at _ _ _ c.copy_from_slice.ensures.after (omega arith)
+returns c = mid-put c.args.buf.now c.args.at _ _ _ c.copy.ensures (omega arith)

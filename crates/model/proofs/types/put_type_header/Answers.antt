@@ -3,4 +3,6 @@ use Rattle.model.proofs.Laws.{headers}
 use Rattle.model.proofs.types.put_type_header.Goals as goal
 
 pub returns : goal.returns
-returns c = search headers
+returns c =
+    let h = rw c.index_of.ensures at c.structure_handle.ensures in
+    search headers

@@ -24,7 +24,7 @@ returns-in_err-to-in-Element c =
     let first = leads (goal.at.returns-in_err-to-in-Element c).In_ok-segment in
     let p = err_from_is_err_and c.from_residual-in_err-to-in-Element.result c.from_residual-in_err-to-in-Element.ensures.1 in
     rw (p.1, p.2)
-    (step-element_turned _ _ _ c.args.g _ _ (rw c.in-Element.is at first) c.of-run.result c.of-run.ensures c.index.result c.index.ensures _
+    (step-element_turned _ _ _ c.args.g _ _ (rw c.in-Element.is at first) c.of-run.result c.of-run.ensures c.index.result c.index.ensures.listed _
     c.in_err-to-in-Element.was)
 
 pub returns-in_err-to-in-Symbol : goal.returns-in_err-to-in-Symbol
@@ -36,7 +36,7 @@ returns-in_err-to-in-Symbol c =
 pub returns-in_ok-to-in-Element : goal.returns-in_ok-to-in-Element
 returns-in_ok-to-in-Element c =
     let first = leads (goal.at.returns-in_ok-to-in-Element c).In_ok-segment in
-    step_element _ _ _ c.args.g _ _ (rw c.in-Element.is at first) c.of-run.result c.of-run.ensures c.index.result c.index.ensures c.requires.1
+    step_element _ _ _ c.args.g _ _ (rw c.in-Element.is at first) c.of-run.result c.of-run.ensures c.index.result c.index.ensures.listed c.requires.1
     c.in_ok-to-in-Element.to c.in_ok-to-in-Element.was
 
 pub returns-in_ok-to-in-Symbol : goal.returns-in_ok-to-in-Symbol

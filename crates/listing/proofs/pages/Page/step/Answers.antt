@@ -12,12 +12,12 @@ of_tag-symbol-requires c = tag_listable (tables_of c.args.t.now) _ _ c.requires.
 
 pub returns-in-Some-Tag-clause-stepped : goal.returns-in-Some-Tag-clause-stepped
 returns-in-Some-Tag-clause-stepped c o memory v =
-    tag_step (tables_of c.args.t.now) _ _ o memory v _ _ _ _ _ _ _ _ _ c.in-Some-Tag.ensures c.in-Some-Tag.field-0-is c.of_tag-symbol.ensures
+    tag_step (tables_of c.args.t.now) _ _ o memory v _ _ _ _ _ _ _ _ _ c.in-Some-Tag.ensures c.in-Some-Tag.field-0-is c.of_tag-symbol.ensures.symbol
     c.put_entry.ensures.entry
 
 pub returns-in-Some-Other-clause-stepped : goal.returns-in-Some-Other-clause-stepped
 returns-in-Some-Other-clause-stepped c o memory v =
-    other_step (tables_of c.args.t.now) _ _ o memory v _ _ _ _ _ _ _ _ _ c.in-Some-Other.ensures c.in-Some-Other.field-0-is c.of_other-symbol.ensures
+    other_step (tables_of c.args.t.now) _ _ o memory v _ _ _ _ _ _ _ _ _ c.in-Some-Other.ensures c.in-Some-Other.field-0-is c.of_other-symbol.ensures.symbol
     c.put_entry-in-Some-Other.ensures.entry
 
 pub returns-in-None-clause-stepped : goal.returns-in-None-clause-stepped

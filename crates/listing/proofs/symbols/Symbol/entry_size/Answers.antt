@@ -12,13 +12,13 @@ use Rattle.listing.proofs.Made.{attributes, attribute_short}
 use Rattle.listing.proofs.symbols.Symbol.entry_size.Goals as goal
 use Rattle.listing.proofs.symbols.Symbol.entry_size.Goals.{After-sum}
 
-few : (s : Symbol) (numbers : Numbers) → length (attributes_of (made s) (numbers_in numbers)) ≤ 281470681808895
-few s numbers = omega (arith, few_short _ _ (attributes (made s)) numbers.pairs.now 4294967297 (attribute_short (made s) s.short_name) numbers.few)
+few : (s : Symbol) (numbers : Numbers) → length s.name.now ≤ 4294967295 → length (attributes_of (made s) (numbers_in numbers)) ≤ 281470681808895
+few s numbers short = omega (arith, few_short _ _ (attributes (made s)) numbers.pairs.now 4294967297 (attribute_short (made s) short) numbers.few)
 
 pub sum-requires-clause-fits : goal.sum-requires-clause-fits
 sum-requires-clause-fits c =
     let s = sum_all _ _ (attributes (made c.args.self.now)) c.args.numbers.now.pairs.now in
-    let l = few c.args.self.now c.args.numbers.now in
+    let l = few c.args.self.now c.args.numbers.now c.requires in
     search rules
 
 summed : (c : After-sum) → c.sum.result ≡ length (attributes_of (made c.args.self.now) (numbers_in c.args.numbers.now))
@@ -29,7 +29,7 @@ summed c =
 
 pub overflow_add-result : goal.overflow_add-result
 overflow_add-result c =
-    let l = few c.args.self.now c.args.numbers.now in
+    let l = few c.args.self.now c.args.numbers.now c.requires in
     let s = summed c in
     search rules
 

@@ -3,7 +3,7 @@ use Rattle.std.proofs.Common.{arith, rules}
 use Rattle.listing.specs.Entries.{made}
 use Rattle.listing.proofs.Lists.{sum_next, sum_end, put_fits, put_next, put_end}
 use Rattle.listing.proofs.Made.{attributes}
-use Rattle.listing.proofs.symbols.Symbol.put_attributes.Goals as goal
+use Rattle.listing.proofs.symbols.Symbol.put_listed.Goals as goal
 
 pub put-used-requires : goal.put-used-requires
 put-used-requires c =
