@@ -31,6 +31,16 @@ impl<'a> Hex<'a> {
     }
 }
 
+/// The same text in a format, a byte at a time: `show` is much faster where there are many.
+impl<'a> fmt::Display for Hex<'a> {
+    fn fmt<W: fmt::Write>(&self, f: &mut fmt::Formatter<W>) -> fmt::Result {
+        for b in self.0 {
+            write!(f, "{b:02X} ")?;
+        }
+        Ok(())
+    }
+}
+
 /// CIP Volume 1, Appendix B. A reply's code is a byte, and any: no enum has all.
 fn general(code: u8) -> &'static str {
     match code {
@@ -87,4 +97,21 @@ pub fn show(to: &impl Print, reply: &[u8], line: Option<u64>) -> io::Result<()> 
     }
     Hex(reply).show(to)?;
     println!(to; " # {}", Status(reply))
+}
+
+#[cfg(test)]
+mod tests {
+    use super::*;
+    use std::test::Fail;
+
+    // Upper-case digits and a space behind each byte, as replies are written; no byte is no text.
+    #[test]
+    fn hex_in_a_format(rt: HostRuntime) -> Result<(), Fail> {
+        let alloc = rt.alloc();
+        let text = format!(in alloc; "{}", Hex(&[0xCC, 0x00, 0x0A, 0x9F]))?;
+        assert_eq!(rt; text.as_str(), "CC 00 0A 9F ");
+        let none = format!(in alloc; "[{}]", Hex(&[]))?;
+        assert_eq!(rt; none.as_str(), "[]");
+        Ok(())
+    }
 }
